@@ -1,7 +1,7 @@
 """Runs several `export --jam` and `export --msg` at the same time, and after power cuts.
 
 No message of the base may be exported twice, and the counts have to be right. A JAM base after a power cut is begun
-again or continued. Temporary files of stopped runs are removed. Links are not followed, and new files have the mode
+again or continued. Staging files of stopped runs are removed. Links are not followed, and new files have the mode
 of the umask.
 """
 import fcntl
@@ -184,7 +184,7 @@ def try_links(place, base, messages):
 
 
 def try_left(place, base, messages):
-    """Temporary files of stopped runs are removed, whatever their contents. Other kinds of files stay."""
+    """Staging files of stopped runs are removed, whatever their contents. Other kinds of files stay."""
     path, folder = os.path.join(place, "left"), os.path.join(place, "left.msg")
     jam.write_base(base, messages)
     os.makedirs(folder)

@@ -7,7 +7,7 @@ folder.
 2. Commands wait for the lock while the base is converted to the other kind. Then they use the new base.
 3. A scan into a folder without hard links is refused, and changes nothing. The next one into a good folder does all.
    With strace the call is refused. If a file system without hard links can be mounted it is tried too.
-4. Temporary files of stopped runs and power cuts are removed, whatever their contents. What is no regular file of
+4. Staging files of stopped runs and power cuts are removed, whatever their contents. What is no regular file of
 this
    user stays, and is a fault.
 Arguments: which of them (replaced begun turned no_links left), by default all.
@@ -187,7 +187,7 @@ def try_no_links(judge, folder):
 
 
 def try_left(judge, folder):
-    """Files with the temporary names of this station."""
+    """Files with the staging names of this station."""
     own, packets = "base.~1.10.1~.new", ["1.10.%d.%d.pkt.~1.10.1~.new" % name for name in ((2, 0), (3, 0), (2, 7), (9, 0))]
     whole = packet_of([Message("toss", 1, 80)])
     number, messages, is_folder = 0, [], os.path.isdir(os.path.join(folder, "base"))

@@ -10,7 +10,7 @@ use crate::room::MessageRoom;
 use echo_addr::{Address, Items};
 use echo_filed::{Filed, Key, StoredMessage, Version, has_tag, is_short, lines_of_id};
 use echo_packet::{MAX_NAME, MAX_SUBJECT};
-use echo_text::{Echo, TextFault, is_kept_tag, read_text_into, trimmed, write_text_into};
+use echo_text::{Echo, TextFault, is_kept_tag, overwrite_text, read_into_room, trimmed};
 use std::alloc::AllocError;
 
 fn is_other_kind(version: Version, kind: u8) -> bool
@@ -66,7 +66,7 @@ fn is_written(room: &mut MessageRoom, echo: &Echo, text: &[u8]) -> Result<bool, 
     ensures { IfOk result (λ same. same ≡ bytes_eq (text_of echo.now) text.now) }
 {
     let mut written = room.take_bytes();
-    write_text_into(&mut written, echo)?;
+    overwrite_text(&mut written, echo)?;
     let same = written.as_slice() == text;
     room.put_bytes(written);
     Ok(same)
@@ -78,7 +78,7 @@ fn echo_of(room: &mut MessageRoom, text: &[u8]) -> Result<Option<Echo>, AllocErr
     if text.contains(&0) {
         return Ok(None);
     }
-    let echo = match read_text_into(room.take_echo(), text) {
+    let echo = match read_into_room(room.take_echo(), text) {
         Ok((echo, _)) => echo,
         Err(TextFault::Memory) => return Err(AllocError),
         Err(_) => return Ok(None),

@@ -17,5 +17,5 @@ pub use alone::read_message;
 pub use base::{Base, Head};
 pub use fault::BaseFault;
 pub use laws::{loaded_base_law, one_base_or_fault, saved_again_law, saved_base_law};
-pub use piece::{Next, head_of, judge_next};
+pub use piece::{Next, judge_next, parse_head};
 pub use room::MessageRoom;

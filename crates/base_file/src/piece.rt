@@ -40,7 +40,7 @@ fn front_of(bytes: &[u8]) -> &[u8]
 
 /// The head of a base file, of which these are the first bytes: 16 or more, or else all that it has. It is `NotBase` or
 /// `Truncated` as `load` says.
-pub fn head_of(bytes: &[u8]) -> Result<Head, BaseFault>
+pub fn parse_head(bytes: &[u8]) -> Result<Head, BaseFault>
     ensures head { IfOk result (λ head. BeginsWith head bytes.now) }
     ensures fault { IfErr result (IsHeadFault bytes.now) }
 {

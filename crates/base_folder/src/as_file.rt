@@ -131,7 +131,10 @@ pub fn send_file<M: MessageSource, W: Sink>(
 }
 
 /// The base file of the same messages and the same cursor, if all are read. If a message is damaged, that is the fault.
-pub fn file_of<M: MessageSource>(alloc: Global, messages: &mut M) -> Result<Vec<u8>, BaseFault>
+pub fn base_file_bytes<M: MessageSource>(
+    alloc: Global,
+    messages: &mut M,
+) -> Result<Vec<u8>, BaseFault>
     requires { (M.state messages.old).is_ready }
     ensures file { (M.state messages.new).is_honest → (base : Base) → (M.state messages.old).holds base → IfOk result (λ bytes. bytes.items ≡ saved_bytes base.messages base.cursor) }
     ensures fault { (M.state messages.new).is_honest → (base : Base) → (M.state messages.old).holds base

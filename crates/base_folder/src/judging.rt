@@ -6,8 +6,8 @@ ghost use Rattle.base_folder.specs.{OpenError.HasUnreadCause, OpenError.IsWrong,
 
 use crate::open_error::OpenError;
 use base_file::BaseFault;
-use base_log::{CommitRecord, End, FolderError, Log, Names, judge, len_of, read_log};
-use base_store::end_of;
+use base_log::{CommitRecord, End, FolderError, Log, Names, file_len, judge, read_log};
+use base_store::message_end;
 use disk_io::{Disk, DiskError, read_part};
 use std::alloc::Global;
 
@@ -66,7 +66,7 @@ fn whole_in(keys: &[u8], all: usize, there: usize) -> u64
 {
     let count = keys.len() / ENTRY;
     'messages: for i in 0..count {
-        if end_of(keys, i, all as u64) > there as u64 {
+        if message_end(keys, i, all as u64) > there as u64 {
             return i as u64;
         }
     }
@@ -86,7 +86,7 @@ fn whole_of<D: Disk>(
     ensures cause { HasCause (D.failures disk.old) (D.failures disk.new) result }
 {
     let names = Names::new(alloc, path, recorded.number)?;
-    let there = len_of(disk, &names.messages)?;
+    let there = file_len(disk, &names.messages)?;
     let keys = part_of(alloc, disk, &names.keys, 0, recorded.keys)?;
     Ok(whole_in(&keys, recorded.messages, there))
 }

@@ -9,7 +9,7 @@ use base_log::FolderIdentity;
 use echo_addr::Address;
 
 /// The number of a system in a folder: sixteen bits each of zone, net and node.
-pub fn number_of(own: Address) -> u64
+pub fn system_number(own: Address) -> u64
     ensures number { result ≡ number_of own }
     ensures recorded { address_of result ≡ own }
 {
@@ -17,7 +17,7 @@ pub fn number_of(own: Address) -> u64
 }
 
 /// The address that has this number.
-pub fn address_of(number: u64) -> Address
+pub fn system_address(number: u64) -> Address
     ensures { result ≡ address_of number }
 {
     Address {
@@ -33,10 +33,10 @@ pub fn judge_owner(mark: FolderIdentity, own: Address) -> Result<(), OpenError>
     ensures other { IfErr result (IsOtherOwner own mark) }
 {
     let owner = mark.owner;
-    if owner == 0 || owner == number_of(own) {
+    if owner == 0 || owner == system_number(own) {
         return Ok(());
     }
-    Err(OpenError::NotOwner(address_of(owner)))
+    Err(OpenError::NotOwner(system_address(owner)))
 }
 
 /// A folder without messages also gets the key of these two halves. The next commit keeps both.
@@ -47,7 +47,7 @@ pub(crate) fn claim_for(folder: &mut Folder, own: Address, first: u64, second: u
     ensures key { 0 < folder.old.keys → SameKey folder.old.recorded.mark folder.new.recorded.mark }
     ensures drawn { IsUnclaimed folder.old → folder.new.recorded.mark ≡ record { owner = number_of own; first = first; second = second } }
 {
-    let owner = number_of(own);
+    let owner = system_number(own);
     if folder.owner().is_some() {
         return;
     }

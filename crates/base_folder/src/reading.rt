@@ -22,7 +22,7 @@ impl ReadingProgress for () {
 }
 
 /// The first number from this one on, of so many messages, or behind the last of them.
-pub fn begin_at(first: u64, count: usize) -> usize
+pub fn start_number(first: u64, count: usize) -> usize
     ensures within { first < count → result ≡ first }
     ensures behind { count ≤ first → result ≡ count }
 {
@@ -49,7 +49,7 @@ pub(crate) fn judge_messages<D: Disk, H: Digest, P: ReadingProgress>(
 {
     let mut room = MessageRoom::new(alloc);
     let count = folder.count();
-    'messages: for i in begin_at(first, count)..count {
+    'messages: for i in start_number(first, count)..count {
         judge_message::<D, H>(alloc, disk, folder, &mut room, i)?;
         progress.tell(i, count);
     }

@@ -7,7 +7,7 @@ use Rattle.base_log.specs.Standing.{BaseBytes}
 use Rattle.base_store.specs.{Keys.place_at, Store.purged, declared.store_error.StoreError.StoreError}
 use Rattle.base_store.specs.declared.store_error.StoreError.TheVariants as error
 use Rattle.base_folder_store.specs.Opened.{IsLegible, IsNamed, IsOpen, IsWritten, committed_by, held_by, path_of}
-use Rattle.base_folder_store.specs.{Added.next_place, Added.with_stored, Held.HoldsBase, declared.folder.Folder.Folder, declared.leaving.Left.Left}
+use Rattle.base_folder_store.specs.{Added.next_place, Added.with_stored, Held.HoldsBase, declared.folder.Folder.Folder, declared.leaving.PurgedBytes.PurgedBytes}
 
 -- A scanned message becomes its stub, and any other message stays.
 abbrev pub left_if : Bool → Filed → Filed
@@ -42,7 +42,7 @@ pub record ArePaired (disk : DiskState) (folder next : Folder) : Type 0 where
   pub named : IsNamed next
 
 -- The bytes are a stored message after a purge, with no more bytes than before. `changed` shows if the purge changed it.
-pub record IsLeftOf (scanned : Bool) (s : Stored) (left : Left) : Type 0 where
+pub record IsLeftOf (scanned : Bool) (s : Stored) (left : PurgedBytes) : Type 0 where
   pub stored : IsStoredAlone (left_if scanned (message_in Second s)) left.bytes.items
   pub shorter : length left.bytes.items ≤ length (stored_bytes Second s)
   pub changed : left.changed ≡ (scanned && not (is_stub (message_in Second s)))

@@ -5,7 +5,7 @@ use Rattle.echo_filed.specs.{Filed.Filed, Stored.IsStored, Stored.Stored, Stored
 use Rattle.base_log.specs.Standing.{BaseBytes}
 use Rattle.base_file.specs.Alone.{MayStandAlone}
 use Rattle.base_store.specs.Keys.{HasBytesOf, digest_at, digested, place_at, place_behind}
-use Rattle.base_folder_store.specs.{Held.digest_by, Opened.IsLegible, Opened.IsWritten, declared.folder.Folder.Folder, declared.reading.StoredMessage.StoredMessage}
+use Rattle.base_folder_store.specs.{Held.digest_by, Opened.IsLegible, Opened.IsWritten, declared.folder.Folder.Folder, declared.reading.StoredBytes.StoredBytes}
 
 -- The folder is only read: no bytes wait, and if the disk was honest its messages are readable.
 pub record IsLookedAt (disk : DiskState) (folder : Folder) : Type 0 where
@@ -39,7 +39,7 @@ pub record AreBytesAt (messages keys : List ℕ) (i : ℕ) (bytes : List ℕ) : 
   pub ends : place_behind messages keys i ≤ length messages
   pub is : drop (place_at keys i) (take (place_behind messages keys i) messages) ≡ bytes
 
-pub record IsReadAt (held : BaseBytes) (i : ℕ) (stored : StoredMessage) : Type 0 where
+pub record IsReadAt (held : BaseBytes) (i : ℕ) (stored : StoredBytes) : Type 0 where
   pub bytes : AreBytesAt held.messages held.keys i stored.bytes.items
   pub digest : stored.digest ≡ digest_at held.keys i
 

@@ -16,7 +16,7 @@ use std::alloc::Global;
 const PIECE: usize = 4_096;
 
 impl Folder {
-    fn take_in<D: Disk>(
+    fn add_keys<D: Disk>(
         &self,
         alloc: Global,
         disk: &mut D,
@@ -38,7 +38,7 @@ impl Folder {
         ensures few { IsErrOf result StoreError.TooMany → ⊥ }
     {
         let piece = self.read_keys(alloc, disk, from, to)?;
-        index.take_in(digest, from, &piece)?;
+        index.add_keys(digest, from, &piece)?;
         Ok(())
     }
 
@@ -63,7 +63,7 @@ impl Folder {
         let mut from = index.covered(digest);
         'pieces: while from < all {
             let to = from + (all - from).min(PIECE);
-            self.take_in(alloc, disk, index, digest, from, to)?;
+            self.add_keys(alloc, disk, index, digest, from, to)?;
             from = to;
         }
         index.chain(alloc, digest);

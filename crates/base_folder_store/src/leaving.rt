@@ -12,7 +12,7 @@ use std::alloc::{AllocError, Global};
 
 /// The message that is left, as it is stored, and whether it is another one than before.
 #[derive(Drop)]
-pub(crate) struct Left {
+pub(crate) struct PurgedBytes {
     pub(crate) bytes: Vec<u8>,
     pub(crate) changed: bool,
 }
@@ -29,7 +29,7 @@ fn make_stub(alloc: Global, message: &mut Filed) -> Result<bool, AllocError>
     Ok(true)
 }
 
-fn stub_in(alloc: Global, bytes: &[u8]) -> Result<Left, StoreError>
+fn stub_in(alloc: Global, bytes: &[u8]) -> Result<PurgedBytes, StoreError>
     ensures left { (s : Stored) → IsStored Second s → MayStandAlone s → bytes.now ≡ stored_bytes Second s
         → Answers (IsLeftOf true s) result }
     ensures read { OnOk result ((m : TheMessage) × IsStoredAlone m bytes.now) }
@@ -39,11 +39,15 @@ fn stub_in(alloc: Global, bytes: &[u8]) -> Result<Left, StoreError>
     let mut message = read_alone(&mut MessageRoom::new(alloc), bytes)?;
     let changed = make_stub(alloc, &mut message)?;
     let bytes = bytes_scanned(alloc, &message)?;
-    Ok(Left { bytes, changed })
+    Ok(PurgedBytes { bytes, changed })
 }
 
 /// What a purge leaves of a stored message. It has no more bytes than before.
-pub(crate) fn left_of(alloc: Global, bytes: Vec<u8>, scanned: bool) -> Result<Left, StoreError>
+pub(crate) fn left_of(
+    alloc: Global,
+    bytes: Vec<u8>,
+    scanned: bool,
+) -> Result<PurgedBytes, StoreError>
     ensures left { (s : Stored) → IsStored Second s → MayStandAlone s → bytes.items ≡ stored_bytes Second s
         → Answers (IsLeftOf scanned s) result }
     ensures read { IsTrue scanned → OnOk result ((m : TheMessage) × IsStoredAlone m bytes.items) }
@@ -53,7 +57,7 @@ pub(crate) fn left_of(alloc: Global, bytes: Vec<u8>, scanned: bool) -> Result<Le
     if scanned {
         stub_in(alloc, &bytes)
     } else {
-        Ok(Left {
+        Ok(PurgedBytes {
             bytes,
             changed: false,
         })

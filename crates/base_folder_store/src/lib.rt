@@ -24,5 +24,5 @@ pub use folder::Folder;
 pub use folder_store::FolderStore;
 pub use laws::one_message_more;
 pub use read_ahead::ReadAhead;
-pub use reading::{Bounds, bounds_of};
+pub use reading::{Bounds, message_bounds};
 pub use sought::{Id, Sought, is_stored};

@@ -3,7 +3,7 @@ ghost use Rattle.disk_io.specs.{Disk.Honestly, Disk.bytes_in, Runs.ChangesNothin
 ghost use Rattle.base_folder_store.specs.Ahead.{AreParts, Covers, IsPartOf};
 
 use base_file::MessageRoom;
-use disk_io::{Disk, DiskError, read_part_into};
+use disk_io::{Disk, DiskError, fill_with_part};
 use std::alloc::Global;
 
 /// How many bytes are read at once, if the file has so many.
@@ -60,7 +60,7 @@ impl ReadAhead {
         }
         let to = ends.max(begins.saturating_add(PIECE)).min(first);
         self.from = begins;
-        match read_part_into(disk, path, begins, to, &mut self.bytes) {
+        match fill_with_part(disk, path, begins, to, &mut self.bytes) {
             Ok(()) => Ok(()),
             Err(fault) => {
                 self.bytes.clear();

@@ -10,7 +10,7 @@ use crate::alone::read_alone;
 use crate::folder::{ENTRY, Folder};
 use crate::read_ahead::{Buffers, ReadAhead};
 use base_file::MessageRoom;
-use base_store::{Index, StoreError, digest_of, end_of, place_of};
+use base_store::{Index, StoreError, message_end, message_start, stored_digest};
 use disk_io::{Disk, DiskError, read_part};
 use echo_filed::Filed;
 use std::alloc::Global;
@@ -49,7 +49,7 @@ pub struct Bounds {
 
 /// The bounds of the message of this number, by its entry and the next one. All messages have so many bytes; `None` if
 /// one of its bytes is not among them.
-pub fn bounds_of(entries: &[u8], place: usize, all: usize) -> Option<Bounds>
+pub fn message_bounds(entries: &[u8], place: usize, all: usize) -> Option<Bounds>
     requires { place < length entries.now / 16 }
     ensures order { IfSome result (λ bounds. bounds.begins ≤ bounds.ends) }
     ensures within { IfSome result (λ bounds. bounds.ends ≤ all) }
@@ -58,8 +58,8 @@ pub fn bounds_of(entries: &[u8], place: usize, all: usize) -> Option<Bounds>
         → IfSome result (λ bounds. drop bounds.begins (take bounds.ends file) ≡ stored_bytes Second s) }
     ensures some { (file : List ℕ) (s : Stored) → length file ≡ all → HasBytesOf file entries.now place s → IsSome result }
 {
-    let begins = place_of(entries, place) as usize;
-    let ends = end_of(entries, place, all as u64) as usize;
+    let begins = message_start(entries, place) as usize;
+    let ends = message_end(entries, place, all as u64) as usize;
     if begins > ends || ends > all {
         return None;
     }
@@ -87,7 +87,7 @@ fn stored_at<D: Disk>(
     let Some(all) = written.checked_add(waiting.len()) else {
         return Err(StoreError::TooMany);
     };
-    let Some(at) = bounds_of(entry, 0, all) else {
+    let Some(at) = message_bounds(entry, 0, all) else {
         return Err(StoreError::Damaged);
     };
     let bytes = read_across(alloc, disk, messages, written, waiting, at.begins, at.ends)?;
@@ -95,7 +95,7 @@ fn stored_at<D: Disk>(
 }
 
 #[derive(Drop)]
-pub(crate) struct StoredMessage {
+pub(crate) struct StoredBytes {
     pub(crate) bytes: Vec<u8>,
     pub(crate) digest: u64,
 }
@@ -202,7 +202,7 @@ impl Folder {
         disk: &mut D,
         index: Option<&Index>,
         place: usize,
-    ) -> Result<StoredMessage, StoreError>
+    ) -> Result<StoredBytes, StoreError>
         requires legible { Honestly (D.state disk.old) (IsLegible (D.state disk.old) self.now) }
         requires indexed { Honestly (D.state disk.old) (IfSome index (λ index. IsIndexOf (held_by (D.state disk.old) self.now).keys index.now)) }
         requires within { place < self.now.keys / 16 }
@@ -217,8 +217,8 @@ impl Folder {
     {
         let entry = self.entry_at(alloc, disk, index, place)?;
         let bytes = self.stored_by(alloc, disk, &entry)?;
-        let digest = digest_of(&entry, 0);
-        Ok(StoredMessage { bytes, digest })
+        let digest = stored_digest(&entry, 0);
+        Ok(StoredBytes { bytes, digest })
     }
 
     fn read_by<D: Disk>(
@@ -243,7 +243,7 @@ impl Folder {
         let Some(all) = written.checked_add(self.waiting.messages.len()) else {
             return Err(StoreError::TooMany);
         };
-        let Some(at) = bounds_of(entry, 0, all) else {
+        let Some(at) = message_bounds(entry, 0, all) else {
             return Err(StoreError::Damaged);
         };
         if at.ends > written {

@@ -5,7 +5,7 @@ ghost use Rattle.base_log.specs.{Names.AreNames, Names.folder_of, Names.keys_of,
 
 use crate::log::{CommitRecord, End};
 use crate::names::Names;
-use disk_io::{Disk, DiskError, sync_folder_of};
+use disk_io::{Disk, DiskError, sync_parent_folder};
 
 /// Makes empty files of another number, with the same mark. The bytes staged there become the base once they are
 /// committed. Until then a crash leaves the base unchanged.
@@ -30,7 +30,7 @@ pub fn stage_anew<D: Disk>(
 {
     disk.create(&names.messages)?;
     disk.create(&names.keys)?;
-    sync_folder_of(disk, &names.folder)?;
+    sync_parent_folder(disk, &names.folder)?;
     Ok(CommitRecord {
         messages: 0,
         keys: 0,

@@ -39,7 +39,7 @@ pub fn read_log<D: Disk>(alloc: Global, disk: &mut D, folder: &[u8]) -> Result<L
 }
 
 /// The size of the file; none if it does not exist.
-pub fn len_of<D: Disk>(disk: &mut D, path: &[u8]) -> Result<usize, DiskError>
+pub fn file_len<D: Disk>(disk: &mut D, path: &[u8]) -> Result<usize, DiskError>
     ensures len { Honestly (D.state disk.new) (IfOk result (λ len. len ≡ length (bytes_in ((D.state disk.old).seen path.now)))) }
     ensures quiet { ChangesNothing (D.state disk.old) (D.state disk.new) }
     ensures cause { HasCause (D.failures disk.old) (D.failures disk.new) result }
@@ -58,8 +58,8 @@ fn is_bare<D: Disk>(disk: &mut D, names: &Names) -> Result<bool, DiskError>
     ensures quiet { ChangesNothing (D.state disk.old) (D.state disk.new) }
     ensures cause { HasCause (D.failures disk.old) (D.failures disk.new) result }
 {
-    let messages = len_of(disk, &names.messages)?;
-    let keys = len_of(disk, &names.keys)?;
+    let messages = file_len(disk, &names.messages)?;
+    let keys = file_len(disk, &names.keys)?;
     Ok(messages == 0 && keys == 0)
 }
 

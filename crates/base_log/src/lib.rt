@@ -18,7 +18,7 @@ mod staging;
 pub use anew::stage_anew;
 pub use committing::commit;
 pub use folder_error::FolderError;
-pub use judging::{judge, len_of, read_log};
+pub use judging::{file_len, judge, read_log};
 pub use log::{CommitRecord, End, FolderIdentity, Log};
 pub use names::Names;
 pub use opening::open;

@@ -6,7 +6,7 @@ ghost use Rattle.base_log.specs.Opening.{AreFlushed, AreNamed, HasBareLog, HasFi
 ghost use Rattle.base_log.specs.{Moments.RepresentsAlone, Moments.KeepsOutside, Standing.BaseBytes, Standing.Represents};
 
 use crate::names::Names;
-use disk_io::{Disk, DiskError, sync_folder_of, write_synced};
+use disk_io::{Disk, DiskError, sync_parent_folder, write_synced};
 use std::alloc::Global;
 
 fn settle_file<D: Disk>(disk: &mut D, path: &[u8]) -> Result<(), DiskError>
@@ -61,7 +61,7 @@ pub(crate) fn make_log<D: Disk>(alloc: Global, disk: &mut D, names: &Names) -> R
 {
     settle_all(alloc, disk, names)?;
     disk.create(&names.log)?;
-    sync_folder_of(disk, &names.folder)?;
+    sync_parent_folder(disk, &names.folder)?;
     disk.sync(&names.log)?;
     write_synced(disk, &names.log, 0, &[0])
 }
@@ -79,5 +79,5 @@ pub(crate) fn make_files<D: Disk>(disk: &mut D, names: &Names) -> Result<(), Dis
 {
     disk.create(&names.messages)?;
     disk.create(&names.keys)?;
-    sync_folder_of(disk, &names.folder)
+    sync_parent_folder(disk, &names.folder)
 }

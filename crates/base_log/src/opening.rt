@@ -7,7 +7,7 @@ ghost use Rattle.base_log.specs.{AtRest.IsAtRest, AtRest.IsLogAt, Moments.KeepsO
 use crate::log::Log;
 use crate::making::{make_files, make_log};
 use crate::names::Names;
-use disk_io::{Disk, DiskError, sync_folder_of};
+use disk_io::{Disk, DiskError, sync_parent_folder};
 use std::alloc::Global;
 
 // The bytes of a killed program are seen and may not be synced yet. The log of a new folder is made.
@@ -27,7 +27,7 @@ fn settle_log<D: Disk>(
         → LeavesOnly (D.state disk.old) (D.state disk.new) (RepresentsOrWasLeft (folder_of names.now) (D.state disk.old) base)) }
     ensures cause { HasCause (D.failures disk.old) (D.failures disk.new) result }
 {
-    sync_folder_of(disk, &names.folder)?;
+    sync_parent_folder(disk, &names.folder)?;
     if log.is_shut() {
         disk.sync(&names.log)?;
         return Ok(());

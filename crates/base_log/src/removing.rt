@@ -4,7 +4,7 @@ ghost use Rattle.base_log.specs.{Names.AreNames, Names.IsOtherNumber, Names.fold
 
 use crate::log::End;
 use crate::names::Names;
-use disk_io::{Disk, DiskError, sync_folder_of};
+use disk_io::{Disk, DiskError, sync_parent_folder};
 
 pub(crate) fn remove_one<D: Disk>(
     disk: &mut D,
@@ -25,7 +25,7 @@ pub(crate) fn remove_one<D: Disk>(
         return Ok(());
     }
     disk.remove(file)?;
-    sync_folder_of(disk, folder)
+    sync_parent_folder(disk, folder)
 }
 
 /// Removes the files of a number that no longer counts. A crash meanwhile leaves the base, and some of them.

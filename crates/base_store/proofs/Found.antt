@@ -4,7 +4,7 @@ use Rattle.std.proofs.lemmas.{Bool.cases_lt, List.drop-drop, List.drop_at, List.
 use Rattle.std.specs.Prelude.{Contains, IfNone, IfSome, OnOk, is_ok}
 use Rattle.std.specs.Int.{w64, from_le_bytes}
 use Rattle.base_store.specs.Expected.{AreFound, IsLastSeen, IsPlaceIn, are_set, is_expected, place_in}
-use Rattle.base_store.specs.{Chains.AreChains, Index.IsIndexOf, Keys.IsPieceOf, Keys.digest_at, declared.chains.Chains.Chains, declared.expected.Expected.Expected, declared.expected.Place.Place}
+use Rattle.base_store.specs.{Chains.AreChains, Index.IsIndexOf, Keys.IsPieceOf, Keys.digest_at, declared.chains.Chains.Chains, declared.expected.Expected.Expected, declared.expected.NumberedDigest.NumberedDigest}
 use Rattle.base_store.specs.declared.index.Index.{Index}
 use Rattle.base_store.proofs.Indexed.{chains_stay, entry_stays}
 
@@ -49,9 +49,9 @@ index_stays keys more index is = record {
 }
 
 pub found_more : (keys piece : List ℕ) (from : ℕ) (old new : Expected) → old.passed ≡ from → new.passed ≡ from + length piece / 16 → ((d : ℕ) → is_expected new d ≡ is_expected old d) → IsPieceOf keys from piece → AreFound keys old
-    → ((p : Place) → Contains old.places.items p → Contains new.places.items p)
+    → ((p : NumberedDigest) → Contains old.places.items p → Contains new.places.items p)
     → ((i : ℕ) → i < length piece / 16 → is_expected old (digest_at piece i) ≡ true → Contains new.places.items (place_in piece from i))
-    → ((p : Place) → Contains new.places.items p → Contains old.places.items p ⊎ IsPlaceIn piece from p) → AreFound keys new
+    → ((p : NumberedDigest) → Contains new.places.items p → Contains old.places.items p ⊎ IsPlaceIn piece from p) → AreFound keys new
 found_more keys piece from old new at passed same is was kept found only =
     let inside = piece_within keys from piece is in
     record {
@@ -65,22 +65,22 @@ found_more keys piece from old new at passed same is was kept found only =
           let low : i < length piece / 16 = omega (arith, under, passed, sum) in
           let digest : digest_at keys j ≡ digest_at piece i = ap (digest_at keys) (sym sum) ∙ piece_digest keys from piece i is low in
           let place : place_in piece from i ≡ record { number = j; digest = digest_at keys j } = λ t. record { number = sum t; digest = sym digest t } in
-          subst (λ (p : Place). Contains new.places.items p) place (found i low (subst (λ (d : ℕ). is_expected old d ≡ true) digest expected)))
+          subst (λ (p : NumberedDigest). Contains new.places.items p) place (found i low (subst (λ (d : ℕ). is_expected old d ≡ true) digest expected)))
           (cases_lt j from);
       sound = λ p there.
           ⊎_elim (λ (h : Contains old.places.items p). was.sound p h)
           (λ (h : IsPlaceIn piece from p).
-          ap (λ (q : Place). digest_at keys q.number) h.is ∙ piece_digest keys from piece h.i is h.within ∙ sym (ap (λ (q : Place). q.digest) h.is))
+          ap (λ (q : NumberedDigest). digest_at keys q.number) h.is ∙ piece_digest keys from piece h.i is h.within ∙ sym (ap (λ (q : NumberedDigest). q.digest) h.is))
           (only p there);
       inside = λ p there.
           ⊎_elim (λ (h : Contains old.places.items p). was.inside p h)
-          (λ (h : IsPlaceIn piece from p). let low = h.within in let here = ap (λ (q : Place). q.number) h.is in omega (arith, low, here, inside))
+          (λ (h : IsPlaceIn piece from p). let low = h.within in let here = ap (λ (q : NumberedDigest). q.number) h.is in omega (arith, low, here, inside))
           (only p there);
     }
 
 pub found_some : (keys piece : List ℕ) (from : ℕ) (old new : Expected) → new.passed ≡ old.passed → ((d : ℕ) → is_expected new d ≡ is_expected old d) → IsPieceOf keys from piece → AreFound keys old
-    → ((p : Place) → Contains old.places.items p → Contains new.places.items p)
-    → ((p : Place) → Contains new.places.items p → Contains old.places.items p ⊎ IsPlaceIn piece from p) → AreFound keys new
+    → ((p : NumberedDigest) → Contains old.places.items p → Contains new.places.items p)
+    → ((p : NumberedDigest) → Contains new.places.items p → Contains old.places.items p ⊎ IsPlaceIn piece from p) → AreFound keys new
 found_some keys piece from old new passed same is was kept only =
     let within = was.within in
     let long = piece_within keys from piece is in
@@ -91,50 +91,50 @@ found_some keys piece from old new passed same is was kept only =
       sound = λ p there.
           ⊎_elim (λ (h : Contains old.places.items p). was.sound p h)
           (λ (h : IsPlaceIn piece from p).
-          ap (λ (q : Place). digest_at keys q.number) h.is ∙ piece_digest keys from piece h.i is h.within ∙ sym (ap (λ (q : Place). q.digest) h.is))
+          ap (λ (q : NumberedDigest). digest_at keys q.number) h.is ∙ piece_digest keys from piece h.i is h.within ∙ sym (ap (λ (q : NumberedDigest). q.digest) h.is))
           (only p there);
       inside = λ p there.
           ⊎_elim (λ (h : Contains old.places.items p). was.inside p h)
-          (λ (h : IsPlaceIn piece from p). let low = h.within in let here = ap (λ (q : Place). q.number) h.is in omega (arith, low, here, long))
+          (λ (h : IsPlaceIn piece from p). let low = h.within in let here = ap (λ (q : NumberedDigest). q.number) h.is in omega (arith, low, here, long))
           (only p there);
     }
 
-abbrev pub HasAllSet : List Bool → List Bool → List ℕ → ℕ → ℕ → List Place → Type 0
+abbrev pub HasAllSet : List Bool → List Bool → List ℕ → ℕ → ℕ → List NumberedDigest → Type 0
 HasAllSet low high piece from end places = (i : ℕ) → i < end → are_set low high (digest_at piece i) ≡ true → Contains places (place_in piece from i)
 
-pub passed_one : (low high : List Bool) (piece : List ℕ) (from i : ℕ) (places : List Place) → are_set low high (digest_at piece i) ≡ false → HasAllSet low high piece from i places → HasAllSet low high piece from (i + 1) places
+pub passed_one : (low high : List Bool) (piece : List ℕ) (from i : ℕ) (places : List NumberedDigest) → are_set low high (digest_at piece i) ≡ false → HasAllSet low high piece from i places → HasAllSet low high piece from (i + 1) places
 passed_one low high piece from i places not_set all j under set =
     ⊎_elim (λ (h : j < i). all j h set)
     (λ (h : i ≤ j). let same : j ≡ i = omega (arith, h, under) in let is : are_set low high (digest_at piece i) ≡ true = subst (λ (n : ℕ). are_set low high (digest_at piece n) ≡ true) same set in absurd (cc))
     (cases_lt j i)
 
-pub added_one : (low high : List Bool) (piece : List ℕ) (from i : ℕ) (places : List Place) → HasAllSet low high piece from i places → HasAllSet low high piece from (i + 1) (places ++ (place_in piece from i ∷ []))
+pub added_one : (low high : List Bool) (piece : List ℕ) (from i : ℕ) (places : List NumberedDigest) → HasAllSet low high piece from i places → HasAllSet low high piece from (i + 1) (places ++ (place_in piece from i ∷ []))
 added_one low high piece from i places all j under set =
     ⊎_elim (λ (h : j < i). Contains-append_left places (place_in piece from i ∷ []) (place_in piece from j) (all j h set))
     (λ (h : i ≤ j). let same : i ≡ j = omega (arith, h, under) in subst (λ (n : ℕ). Contains (places ++ (place_in piece from i ∷ [])) (place_in piece from n)) same (Contains-push places (place_in piece from i)))
     (cases_lt j i)
 
-abbrev pub AreOnly : List ℕ → ℕ → List Place → List Place → Type 0
-AreOnly piece from old places = (p : Place) → Contains places p → Contains old p ⊎ IsPlaceIn piece from p
+abbrev pub AreOnly : List ℕ → ℕ → List NumberedDigest → List NumberedDigest → Type 0
+AreOnly piece from old places = (p : NumberedDigest) → Contains places p → Contains old p ⊎ IsPlaceIn piece from p
 
-pub only_more : (piece : List ℕ) (from i : ℕ) (old places : List Place) → i < length piece / 16 → AreOnly piece from old places → AreOnly piece from old (places ++ (place_in piece from i ∷ []))
+pub only_more : (piece : List ℕ) (from i : ℕ) (old places : List NumberedDigest) → i < length piece / 16 → AreOnly piece from old places → AreOnly piece from old (places ++ (place_in piece from i ∷ []))
 only_more piece from i old places within only p there =
     ⊎_elim (λ (h : Contains places p). only p h) (λ (h : place_in piece from i ≡ p). inr (record { i = i; within = within; is = sym h })) (Contains-push_cases places (place_in piece from i) p there)
 
-pub seen_more : (places : List Place) (digest below i last : ℕ) (place : Place) → i < length places → place ≡ get_or places i place → place.digest ≡ digest → last ≤ place.number → place.number < below
+pub seen_more : (places : List NumberedDigest) (digest below i last : ℕ) (place : NumberedDigest) → i < length places → place ≡ get_or places i place → place.digest ≡ digest → last ≤ place.number → place.number < below
     → IsLastSeen places digest below i last → IsLastSeen places digest below (i + 1) (place.number + 1)
 seen_more places digest below i last place inside at is from low was = record {
   within = omega (arith, low);
   has = λ k e.
       let same : k ≡ place.number = omega (arith, e) in
       let one : place ≡ record { number = k; digest = digest } = λ t. record { number = sym same t; digest = is t } in
-      subst (λ (p : Place). Contains places p) one (i, inside, sym at);
+      subst (λ (p : NumberedDigest). Contains places p) one (i, inside, sym at);
   seen = λ k d under lower same.
       ⊎_elim (λ (h : k < i). let before = was.seen k d h lower same in omega (arith, before, from))
       (λ (h : i ≤ k).
       let here : k ≡ i = omega (arith, h, under) in
       let that : get_or places k d ≡ place = ap (λ (n : ℕ). get_or places n d) here ∙ get_or_default places i d place inside ∙ sym at in
-      let number = ap (λ (p : Place). p.number) that in
+      let number = ap (λ (p : NumberedDigest). p.number) that in
       omega (arith, number))
       (cases_lt k i);
 }

@@ -2,7 +2,7 @@
 ghost use Rattle.std.specs.Prelude.{◌≡◌, ◌≢◌, ◌<◌, ◌≤◌, ◌+◌, ◌/◌, ◌⊎◌, ℕ, List, length, min, slice_index, IfSome, IfNone, OnOk};
 ghost use Rattle.base_store.specs.{Keys.digest_at, Chains.AreChains, Chains.count_of, Chains.head_of};
 
-use crate::entries::{ENTRY, digest_of, has_digest, last_from};
+use crate::entries::{ENTRY, has_digest, last_from, stored_digest};
 use std::alloc::{AllocError, Global};
 
 /// How many messages are chained at most: each, counted from 1, is a number of four bytes.
@@ -57,7 +57,7 @@ impl Chains {
         ensures count { OnOk result (count_of self.new ≡ number + 1) }
         ensures heads { length self.new.heads.items ≡ length self.old.heads.items }
     {
-        let head = head_of(self.heads.len(), digest_of(keys, number));
+        let head = head_of(self.heads.len(), stored_digest(keys, number));
         let last = self.heads[head];
         self.before.push(last)?;
         self.heads[head] = number as u32 + 1;

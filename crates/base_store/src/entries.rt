@@ -23,7 +23,7 @@ fn number_at(keys: &[u8], at: usize) -> u64
 }
 
 /// Where the message of this number begins, counted from 0.
-pub fn place_of(keys: &[u8], number: usize) -> u64
+pub fn message_start(keys: &[u8], number: usize) -> u64
     requires { number < length keys.now / 16 }
     ensures { result ≡ place_at keys.now number }
 {
@@ -31,7 +31,7 @@ pub fn place_of(keys: &[u8], number: usize) -> u64
 }
 
 /// The digest in the entry of the message of this number, counted from 0.
-pub fn digest_of(keys: &[u8], number: usize) -> u64
+pub fn stored_digest(keys: &[u8], number: usize) -> u64
     requires { number < length keys.now / 16 }
     ensures { result ≡ digest_at keys.now number }
 {
@@ -39,12 +39,12 @@ pub fn digest_of(keys: &[u8], number: usize) -> u64
 }
 
 /// Where the message of this number ends: where the next one begins, or where all messages end.
-pub fn end_of(keys: &[u8], number: usize, all: u64) -> u64
+pub fn message_end(keys: &[u8], number: usize, all: u64) -> u64
     requires { number < length keys.now / 16 }
     ensures { (messages : List ℕ) → length messages ≡ all → result ≡ place_behind messages keys.now number }
 {
     if number + 1 < keys.len() / ENTRY {
-        place_of(keys, number + 1)
+        message_start(keys, number + 1)
     } else {
         all
     }
@@ -66,7 +66,7 @@ pub(crate) fn has_digest(keys: &[u8], digest: u64, place: usize, below: usize) -
     requires { below ≤ length keys.now / 16 }
     ensures { IsTrue result ↔ ((place < below) × (digest_at keys.now place ≡ digest)) }
 {
-    place < below && digest_of(keys, place) == digest
+    place < below && stored_digest(keys, place) == digest
 }
 
 pub(crate) fn last_from(keys: &[u8], digest: u64, from: usize, below: usize) -> Option<usize>
@@ -78,7 +78,7 @@ pub(crate) fn last_from(keys: &[u8], digest: u64, from: usize, below: usize) -> 
     let mut end = below;
     'entries: while end > from {
         let place = end - 1;
-        if digest_of(keys, place) == digest {
+        if stored_digest(keys, place) == digest {
             return Some(place);
         }
         end = place;

@@ -3,7 +3,7 @@ ghost use Rattle.std.specs.Prelude.{◌≡◌, ◌≢◌, ◌<◌, ◌+◌, ◌/
 ghost use Rattle.base_store.specs.Expected.{AreFound, IsLastSeen, IsPlaceIn, are_set, is_expected, place_in};
 ghost use Rattle.base_store.specs.Keys.{IsPieceOf, digest_at};
 
-use crate::entries::{ENTRY, digest_of};
+use crate::entries::{ENTRY, stored_digest};
 use std::alloc::{AllocError, Global};
 
 /// How many flags are in a table: one for each number of sixteen bits.
@@ -20,14 +20,14 @@ pub struct Expected {
     low: Vec<bool>,
     high: Vec<bool>,
     digests: usize,
-    places: Vec<Place>,
+    places: Vec<NumberedDigest>,
     // The number of messages that a pass has covered.
     passed: usize,
 }
 
 /// The number of a message, and the digest in its entry.
 #[derive(Clone, Copy)]
-pub struct Place {
+pub struct NumberedDigest {
     number: usize,
     digest: u64,
 }
@@ -52,7 +52,7 @@ fn find_all(
     high: &[bool],
     piece: &[u8],
     from: usize,
-    places: &mut Vec<Place>,
+    places: &mut Vec<NumberedDigest>,
 ) -> Result<(), AllocError>
     requires { from + length piece.now / 16 < 2 ^ 64 }
     ensures kept { (p : Place) → Contains places.old.items p → Contains places.new.items p }
@@ -60,9 +60,9 @@ fn find_all(
     ensures only { (p : Place) → Contains places.new.items p → Contains places.old.items p ⊎ IsPlaceIn piece.now from p }
 {
     'entries: for i in 0..piece.len() / ENTRY {
-        let digest = digest_of(piece, i);
+        let digest = stored_digest(piece, i);
         if are_set(low, high, digest) {
-            places.push(Place {
+            places.push(NumberedDigest {
                 number: from + i,
                 digest,
             })?;

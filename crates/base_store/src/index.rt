@@ -41,7 +41,7 @@ impl Index {
         self.expected.add(alloc, digest);
     }
 
-    /// Call it before a look-up of a digest, and then `take_in` for the keys that are not covered. An
+    /// Call it before a look-up of a digest, and then `add_keys` for the keys that are not covered. An
     /// unexpected digest is expected from then on, if it is one of the first two.
     pub fn begin(&mut self, alloc: Global, digest: u64)
         ensures { (keys : List ℕ) → IsIndexOf keys self.old → IsIndexOf keys self.new }
@@ -65,7 +65,7 @@ impl Index {
 
     /// Takes in the next keys, for look-ups of the digest: those from the first message on that is
     /// not covered, which has that number. If memory is refused, it is an index still.
-    pub fn take_in(&mut self, digest: u64, from: usize, piece: &[u8]) -> Result<(), AllocError>
+    pub fn add_keys(&mut self, digest: u64, from: usize, piece: &[u8]) -> Result<(), AllocError>
         requires { from + length piece.now / 16 < 2 ^ 64 }
         ensures index { (keys : List ℕ) → covered self.old digest ≡ from → IsPieceOf keys from piece.now → IsIndexOf keys self.old → IsIndexOf keys self.new }
         ensures covered { (keys : List ℕ) → covered self.old digest ≡ from → IsPieceOf keys from piece.now → IsIndexOf keys self.old

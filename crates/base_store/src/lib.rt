@@ -16,7 +16,7 @@ mod store_error;
 
 pub use chains::Chains;
 pub use digest::{Digest, digest_of_key};
-pub use entries::{digest_of, end_of, entry, place_of};
+pub use entries::{entry, message_end, message_start, stored_digest};
 pub use index::Index;
 pub use laws::{
     an_index_stays_one, each_message_has_its_entry, each_message_is_where_recorded,

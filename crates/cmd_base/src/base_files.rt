@@ -3,7 +3,7 @@
 //! fails. The lock of a file that became the base file is held as long as these files.
 
 use cmd_input::BASE_START;
-use disk_system::{Access, OutputFault, access_of, check_left, give_access, make_new};
+use disk_system::{Access, OutputFault, check_left, give_access, make_new, replaced_access};
 use std::alloc::Allocator;
 use std::cell::Cell;
 use std::fs::{File, Metadata, OpenOptions};
@@ -51,7 +51,7 @@ impl<'r> BaseFiles<'r> {
         if is_link(self.rt, target) {
             return Err(ErrorKind::Other.into());
         }
-        access_of(self.rt, target).map_err(system_error)
+        replaced_access(self.rt, target).map_err(system_error)
     }
 
     // No other run has this new file, so it is locked at once, where files have locks.

@@ -6,7 +6,7 @@ use base_log::Names;
 use cmd_input::{folder_fault, locked_folder, output_fault, text_path};
 use cmd_status::Fault;
 use disk_system::{
-    Access, OutputFault, RealDisk, Unknown, access_of, flush_folder, give_access, make_new,
+    Access, OutputFault, RealDisk, Unknown, flush_folder, give_access, make_new, replaced_access,
 };
 use std::fs::{DirEntry, File, Metadata};
 use std::io::ErrorKind;
@@ -139,7 +139,7 @@ fn copy_if_linked(rt: &HostRuntime, path: &str, staging: &str) -> Result<(), Out
 }
 
 fn copy_to(rt: &HostRuntime, path: &str, staging: &str) -> Result<(), OutputFault> {
-    let access = access_of(rt, path)?;
+    let access = replaced_access(rt, path)?;
     make_new(rt, staging)?;
     fs::copy(rt, path, staging)?;
     let copy = fs::open(rt, staging)?;

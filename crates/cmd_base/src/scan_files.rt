@@ -74,12 +74,12 @@ impl<'p, 'r> ScanFiles<'p, 'r> {
     }
 
     /// The path at which the first call failed.
-    pub fn failed_at(&self) -> Option<String> {
+    pub fn failed_path(&self) -> Option<String> {
         self.failed.take()
     }
 
     /// The path of a packet that another file has.
-    pub fn taken_at(&self) -> Option<String> {
+    pub fn taken_path(&self) -> Option<String> {
         self.taken.take()
     }
 

@@ -81,7 +81,7 @@ fn check_read<'a, W: Sink>(
     let mut lines = Vec::new(alloc);
     push_check(alloc, &mut lines, list, more, links, tag, &verdict)?;
     print_rest(&mut lines, out)?;
-    Ok(status_of(&verdict))
+    Ok(check_status(&verdict))
 }
 
 /// Adds the lines of the verdict, of further faults if they are asked for, and of the systems that the nodelist
@@ -104,7 +104,7 @@ pub(crate) fn push_check(
 }
 
 /// The status of a verdict: 0 for a yes, else 1.
-pub fn status_of(verdict: &Verdict) -> Status
+pub fn check_status(verdict: &Verdict) -> Status
     ensures { result ≡ verdict_status verdict.now }
 {
     match verdict {

@@ -115,7 +115,7 @@ fn links_in<'f>(file: &'f LinkFile, tag: &[u8]) -> &'f [Address]
 }
 
 /// The first of these addresses that no file is of or lists. The first fault of the files is returned.
-pub fn unknown_in<'a>(
+pub fn first_unknown_address<'a>(
     alloc: Global,
     inputs: &[Items<u8>],
     out: &[Address],

@@ -33,11 +33,11 @@ mod supposing;
 mod who_text;
 mod why_text;
 
-pub use checking::{Besides, check, status_of};
+pub use checking::{Besides, check, check_status};
 pub use checking_all::check_all;
-pub use leaving::unknown_in;
+pub use leaving::first_unknown_address;
 pub use picturing::{picture, print_picture};
-pub use picturing_parts::picture_without;
+pub use picturing_parts::picture_remaining;
 pub use picturing_why::picture_why;
 pub use reasoning::why;
 pub use replaying::replay;

@@ -4,7 +4,7 @@ ghost use Rattle.echo_links.specs.Links.{upper};
 ghost use Rattle.cmd_status.specs.{Devices.output_of, Inputs.AreLinkFiles};
 ghost use Rattle.cmd_check.specs.Picturing.{PictureAnswers, PrintsPicture};
 
-use crate::checking::status_of;
+use crate::checking::check_status;
 use cmd_print::push_picture;
 use cmd_status::{Fault, Status, link_files, print_rest};
 use disk_io::Sink;
@@ -63,5 +63,5 @@ pub fn print_picture<'a, W: Sink>(
     let mut lines = Vec::new(alloc);
     push_picture(alloc, &mut lines, tag, verdict, drawing, crossings)?;
     print_rest(&mut lines, out)?;
-    Ok(status_of(verdict))
+    Ok(check_status(verdict))
 }

@@ -6,7 +6,7 @@ ghost use Rattle.cmd_print.specs.Pushed.{Pushes};
 ghost use Rattle.cmd_check.specs.JudgedAreas.{is_alone};
 ghost use Rattle.cmd_check.specs.PicturingParts.{IsLeftDrawn, IsPartsDrawn, PictureWithoutAnswers, filled_line, filled_lines, picture_front};
 
-use crate::checking::status_of;
+use crate::checking::check_status;
 use crate::leaving::files_left;
 use crate::supposed_areas::{is_alone, push_alone};
 use cmd_print::push_picture;
@@ -21,7 +21,7 @@ use std::io::Write;
 
 /// `picture --without ADDRESS.. TAG LINKS...`: prints the graph that `picture` prints of what is left of these files. The
 /// systems of each part that is cut off have a colour. The status is that of `check`.
-pub fn picture_without<'a, W: Sink>(
+pub fn picture_remaining<'a, W: Sink>(
     alloc: Global,
     tag: &[u8],
     files: &[Items<u8>],
@@ -83,12 +83,12 @@ fn push_parts_picture(
 {
     let verdict = echo_net::check(alloc, left, tag)?;
     let drawing = echo_net::draw(alloc, left, tag, &verdict)?;
-    let cut = echo_net::cut_off(alloc, left, tag)?;
+    let cut = echo_net::cut_parts(alloc, left, tag)?;
     let front = picture_front(alloc, tag, &verdict, &drawing)?;
     lines.extend_from_slice(&front)?;
     push_filled(lines, &cut)?;
     lines.extend_from_slice(b"}\n")?;
-    Ok(status_of(&verdict))
+    Ok(check_status(&verdict))
 }
 
 // The lines of a drawing but the last one.

@@ -4,7 +4,7 @@ ghost use Rattle.echo_links.specs.Links.{upper};
 ghost use Rattle.cmd_status.specs.{Devices.output_of, Inputs.AreLinkFiles};
 ghost use Rattle.cmd_check.specs.Reasoning.{PrintsWhy, WhyAnswers};
 
-use crate::status_of;
+use crate::check_status;
 use crate::why_text::push_why;
 use cmd_status::{Fault, Status, link_files, print_rest};
 use disk_io::Sink;
@@ -74,5 +74,5 @@ fn print_why<'a, W: Sink>(
     let mut lines = Vec::new(alloc);
     push_why(alloc, &mut lines, links, paths, tag, verdict, found)?;
     print_rest(&mut lines, out)?;
-    Ok(status_of(verdict))
+    Ok(check_status(verdict))
 }

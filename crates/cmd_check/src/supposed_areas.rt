@@ -18,7 +18,7 @@ use disk_io::Sink;
 use echo_addr::{Address, Items};
 use echo_charset::{push_word, written};
 use echo_links::LinkFile;
-use echo_net::{Listing, cut_off};
+use echo_net::{Listing, cut_parts};
 use echo_nodelist::Nodelist;
 use std::alloc::{AllocError, Global};
 use std::io::Write;
@@ -222,7 +222,7 @@ fn push_cut(
     if out.is_empty() {
         Ok(())
     } else {
-        let cut = cut_off(alloc, left, tag)?;
+        let cut = cut_parts(alloc, left, tag)?;
         push_parts(lines, &cut)?;
         Ok(())
     }

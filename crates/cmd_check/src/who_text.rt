@@ -112,13 +112,13 @@ fn push_who(
     ensures { OnOk result (lines.new.items ≡ lines.old.items ++ named_line system address (option_copied path.entry)) }
 {
     written(write!(lines, "; {system} is {address}"))?;
-    push_path(lines, path)?;
+    push_file_path(lines, path)?;
     lines.push(b'\n')?;
     Ok(())
 }
 
 // Adds the path after an address.
-fn push_path(lines: &mut Vec<u8>, path: Option<&Items<u8>>) -> Result<(), AllocError>
+fn push_file_path(lines: &mut Vec<u8>, path: Option<&Items<u8>>) -> Result<(), AllocError>
     ensures { OnOk result (lines.new.items ≡ lines.old.items ++ path_text (option_copied path.entry)) }
 {
     match path {

@@ -6,7 +6,7 @@ use cmd_input::{Progress, is_folder, read_file};
 use cmd_print::ListForm;
 use cmd_repair::list_ids;
 use cmd_show::{ExportQuery, ListQuery, export, list, list_areas, tell_lost};
-use cmd_status::{Fault, Status, number_of};
+use cmd_status::{Fault, Status, parse_number};
 use cmd_words::{ExportWords, ListWords};
 use disk_io::Sink;
 use echo_export::Form;
@@ -21,7 +21,7 @@ pub(crate) fn run_list<'a, W: Sink>(
     out: &mut W,
 ) -> Result<Status, Fault<'a>> {
     let first = match words.from {
-        Some(word) => number_of(word)?,
+        Some(word) => parse_number(word)?,
         None => 0,
     };
     if is_folder(rt, words.base) {
@@ -83,7 +83,7 @@ fn export_given<'a, W: Sink>(
     out: &mut W,
 ) -> Result<u128, Fault<'a>> {
     let first = match words.from {
-        Some(word) => number_of(word)?,
+        Some(word) => parse_number(word)?,
         None => 0,
     };
     let asked = ExportQuery {

@@ -6,12 +6,12 @@ use base_folder::{BaseReader, Distinct, FillError, MessageSource, SendError, fil
 use base_store::SipDigest;
 use cmd_input::{
     BASE_START, drawn_key, flush_name, folder_path, is_folder, is_strange, is_unused,
-    locked_folder, look_into, messages_fault, output_fault, read_file,
+    locked_folder, messages_fault, open_folder_reader, output_fault, read_file,
 };
 use cmd_status::{Fault, Status, print_rest};
 use disk_io::{Sink, Watched};
 use disk_system::{
-    OutputFault, RealDisk, Unknown, begin_file, drop_file, flush_folder, folder_of, name_file,
+    OutputFault, RealDisk, Unknown, begin_file, drop_file, flush_folder, name_file, parent_path,
 };
 use std::collections::hash_map::RandomState;
 use std::io;
@@ -29,7 +29,7 @@ pub(crate) fn run_convert<'a, W: Sink>(
 ) -> Result<Status, Fault<'a>> {
     let hasher = RandomState::new(rt).map_err(|_| Fault::Base(BaseFault::Read))?;
     if is_folder(rt, from) {
-        let messages = look_into(rt, from, 0, None)?;
+        let messages = open_folder_reader(rt, from, 0, None)?;
         let mut messages = Distinct::new(rt.alloc(), messages, hasher);
         judge_for(rt, from, &mut messages, to)?;
         return convert_messages(rt, from, &mut messages, to, out);
@@ -159,7 +159,7 @@ fn save_file<'a, M: MessageSource>(
     requires { (M.state messages.old).is_ready }
 {
     let Err(failed) = write_file(rt, from, messages, to)? else {
-        return flush_folder(rt, folder_of(to)).map_err(|fault| output_fault(fault, to));
+        return flush_folder(rt, parent_path(to)).map_err(|fault| output_fault(fault, to));
     };
     judge_messages(rt, from, messages)?;
     Err(output_fault(failed, to))

@@ -1,9 +1,9 @@
 //! `list` and `export` of a base folder: the messages that are asked for are all read before a line is printed.
 
 use crate::bases::{asked_area, list_query};
-use cmd_input::{Progress, look_into};
+use cmd_input::{Progress, open_folder_reader};
 use cmd_repair::list_ids;
-use cmd_show::{ExportQuery, export_messages, list_areas_of, list_messages};
+use cmd_show::{ExportQuery, export_messages, list_areas_streamed, list_messages};
 use cmd_status::{Fault, Status};
 use cmd_words::ListWords;
 use disk_io::Sink;
@@ -15,9 +15,9 @@ pub(crate) fn list_folder<'a, W: Sink>(
     progress: &Progress<'_>,
     out: &mut W,
 ) -> Result<Status, Fault<'a>> {
-    let mut messages = look_into(rt, words.base, first, Some(progress))?;
+    let mut messages = open_folder_reader(rt, words.base, first, Some(progress))?;
     if words.areas {
-        return list_areas_of(rt.alloc(), words.base, &mut messages, out);
+        return list_areas_streamed(rt.alloc(), words.base, &mut messages, out);
     }
     if words.ids {
         let area = asked_area(words);
@@ -33,6 +33,6 @@ pub(crate) fn export_folder<'a, W: Sink>(
     asked: &ExportQuery<'_>,
     out: &mut W,
 ) -> Result<u128, Fault<'a>> {
-    let mut messages = look_into(rt, base, asked.first, None)?;
+    let mut messages = open_folder_reader(rt, base, asked.first, None)?;
     export_messages(rt.alloc(), asked, base, &mut messages, out)
 }

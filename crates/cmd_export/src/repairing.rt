@@ -5,7 +5,8 @@ ghost use Rattle.std.specs.Prelude.{◌≡◌, None};
 use crate::resending::check_owner;
 use base_folder::MessageSource;
 use cmd_input::{
-    LinkLock, MAX_INPUT, folder_path, is_folder, load_base, look_into, output_fault, read_given,
+    LinkLock, MAX_INPUT, folder_path, is_folder, load_base, open_folder_reader, output_fault,
+    read_given,
 };
 use cmd_repair::{KnownIds, SendFault, check_linked, push_nothing, read_ids, send_all};
 use cmd_status::{Fault, FileLock, Status, print_rest};
@@ -17,7 +18,7 @@ use disk_system::{
 };
 use echo_links::LinkFile;
 use echo_toss::{CountedPacket, Resend};
-use station::links_at;
+use station::lock_and_read_links;
 use std::alloc::AllocError;
 use std::fs::File;
 use std::io::ErrorKind;
@@ -103,7 +104,7 @@ fn links_judged<'a, D: Disk, L: FileLock>(
 ) -> Result<LinkFile, Fault<'a>>
     requires { L.held lock.old ≡ None }
 {
-    let links = links_at(rt.alloc(), disk, lock, words.place.links)?;
+    let links = lock_and_read_links(rt.alloc(), disk, lock, words.place.links)?;
     let area = asked.area.to_ascii_uppercase(rt.alloc())?;
     check_linked(&links, &area, asked.to)?;
     check_owner(rt, disk, words.place.base, links.system())?;
@@ -119,7 +120,7 @@ fn send_base<W: Sink, E: Sink>(
     errors: &mut E,
 ) -> Status {
     if is_folder(rt, words.place.base) {
-        return match look_into(rt, words.place.base, repair.asked.first as u64, None) {
+        return match open_folder_reader(rt, words.place.base, repair.asked.first as u64, None) {
             Ok(mut messages) => send_messages(rt, words, repair, links, &mut messages, out, errors),
             Err(fault) => fault.report(errors),
         };

@@ -5,11 +5,12 @@ use crate::repairing::run_repair;
 use base_file::BaseFault;
 use base_folder::{judge_owner, log_end};
 use cmd_input::{
-    LinkLock, folder_path, is_folder, is_strange, look_into, moment_of, output_fault, read_file,
+    LinkLock, folder_path, is_folder, is_strange, named_stamp, open_folder_reader, output_fault,
+    read_file,
 };
-use cmd_numbered::{resend, resend_of};
+use cmd_numbered::{resend, resend_streamed};
 use cmd_repair::check_linked;
-use cmd_status::{Fault, FileLock, Status, number_of, parse_address, print_rest};
+use cmd_status::{Fault, FileLock, Status, parse_address, parse_number, print_rest};
 use cmd_store::{push_packet, resent_name};
 use cmd_words::ResendWords;
 use disk_io::{Disk, Sink};
@@ -19,7 +20,7 @@ use disk_system::{
 use echo_addr::Address;
 use echo_toss::Resend;
 use model_steps::Packet;
-use station::links_at;
+use station::lock_and_read_links;
 use std::alloc::AllocError;
 use std::collections::hash_map::RandomState;
 use std::str;
@@ -54,10 +55,10 @@ pub(crate) fn run_resend<W: Sink, E: Sink>(
 fn asked_of<'a>(rt: &HostRuntime, words: &ResendWords<'a>) -> Result<Resend<'a>, Fault<'a>> {
     let to = parse_address(words.to)?;
     let first = match words.from {
-        Some(word) => number_of(word)?,
+        Some(word) => parse_number(word)?,
         None => 0,
     };
-    let stamp = moment_of(rt, words.at)?;
+    let stamp = named_stamp(rt, words.at)?;
     Ok(Resend {
         area: words.area.as_bytes(),
         to,
@@ -77,13 +78,13 @@ fn packet_of<'a, D: Disk, L: FileLock>(
     requires { L.held lock.old ≡ None }
 {
     let hasher = RandomState::new(rt).map_err(|_| Fault::Base(BaseFault::Read))?;
-    let links = links_at(rt.alloc(), disk, lock, words.place.links)?;
+    let links = lock_and_read_links(rt.alloc(), disk, lock, words.place.links)?;
     let area = asked.area.to_ascii_uppercase(rt.alloc())?;
     check_linked(&links, &area, asked.to)?;
     check_owner(rt, disk, words.place.base, links.system())?;
     if is_folder(rt, words.place.base) {
-        let mut messages = look_into(rt, words.place.base, 0, None)?;
-        return resend_of(rt.alloc(), asked, &links, words.place.base, &mut messages);
+        let mut messages = open_folder_reader(rt, words.place.base, 0, None)?;
+        return resend_streamed(rt.alloc(), asked, &links, words.place.base, &mut messages);
     }
     let base = read_file(rt, words.place.base, usize::MAX)?;
     resend(rt.alloc(), asked, links, &base, hasher)
@@ -165,7 +166,7 @@ fn path_of(rt: &HostRuntime, folder: &str, asked: Resend<'_>) -> Result<String, 
     Ok(path)
 }
 
-// Writes it under the temporary name of its system, and gives it its own.
+// Writes it under the staging name of its system, and gives it its own.
 fn write_packet(rt: &HostRuntime, path: &str, packet: &Packet) -> Result<(), OutputFault> {
     let zone = packet.header.orig_zone;
     let net = packet.header.orig_net;

@@ -5,18 +5,18 @@ ghost use Rattle.std.specs.Prelude.{◌≢◌, IfErr};
 
 use base_folder::MessageSource;
 use cmd_input::{
-    folder_fault, folder_path, is_folder, load_base, locked_folder, look_into, output_fault,
-    read_file,
+    folder_fault, folder_path, is_folder, load_base, locked_folder, open_folder_reader,
+    output_fault, read_file,
 };
 use cmd_numbered::{
-    ExportError, Exported, LastFile, MessageFile, MessageFolder, export_files, is_left, number_in,
-    tell_exported,
+    ExportError, Exported, LastFile, MessageFile, MessageFolder, export_files, is_left,
+    stored_number, tell_exported,
 };
-use cmd_status::{Fault, Status, ended, number_of};
+use cmd_status::{Fault, Status, ended, parse_number};
 use cmd_words::ExportStoredWords;
 use disk_io::Sink;
 use disk_system::{
-    BY_UMASK, NewFile, OutputFault, create_file, flush_folder, folder_of, remove_left,
+    BY_UMASK, NewFile, OutputFault, create_file, flush_folder, parent_path, remove_left,
 };
 use std::alloc::AllocError;
 use std::fs::File;
@@ -73,7 +73,7 @@ impl<E: Sink> FolderFiles<'_, '_, E> {
             mode: BY_UMASK,
         };
         let made = match create_file(self.rt.alloc(), self.rt, new) {
-            Ok(()) => flush_folder(self.rt, folder_of(path)),
+            Ok(()) => flush_folder(self.rt, parent_path(path)),
             failed => failed,
         };
         match made {
@@ -119,14 +119,14 @@ fn export_into<'a, E: Sink>(
     errors: &mut E,
 ) -> Result<(File, Exported<'a>), Fault<'a>> {
     let first = match words.from {
-        Some(word) => number_of(word)?,
+        Some(word) => parse_number(word)?,
         None => 0,
     };
     let folder = words.folder;
     let locked = locked_folder(rt, folder);
     let mut files = FolderFiles { rt, folder, errors };
     if is_folder(rt, words.base) {
-        let mut messages = look_into(rt, words.base, 0, None)?;
+        let mut messages = open_folder_reader(rt, words.base, 0, None)?;
         let locked = locked?;
         let exported = export_messages(words, first, &mut messages, &mut files)?;
         return Ok((locked, exported));
@@ -189,7 +189,7 @@ fn last_name<'a>(rt: &HostRuntime, folder: &'a str) -> Result<Option<Last>, Faul
         if is_left(name.as_bytes()) {
             remove_left(rt, file_path(rt, folder, name)?.as_str());
         }
-        if let Some(number) = number_in(name.as_bytes()) {
+        if let Some(number) = stored_number(name.as_bytes()) {
             let greatest = last.as_ref().map_or(0, |last| last.number);
             if number >= greatest {
                 let path = file_path(rt, folder, name)?;

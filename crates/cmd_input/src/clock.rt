@@ -1,8 +1,8 @@
 //! The clock, for words that leave the stamp or the serial to it.
 
 use crate::local::seconds_ahead;
-use crate::moment::{shown_at, stamp_at};
-use cmd_status::{Fault, serial_of, stamp_of};
+use crate::moment::{clock_stamp, utc_stamp};
+use cmd_status::{Fault, parse_serial, parse_stamp};
 use model_steps::Stamp;
 use std::time::{SystemTime, UNIX_EPOCH};
 
@@ -11,14 +11,14 @@ const CLOCK: &str = "clock";
 const SERIALS: u64 = 1 << 32;
 
 /// The stamp that the word names: for `now` the clock's in UTC, for `local` the clock's in the system's time zone.
-pub fn moment_of<'a>(rt: &HostRuntime, word: &str) -> Result<Stamp, Fault<'a>> {
+pub fn named_stamp<'a>(rt: &HostRuntime, word: &str) -> Result<Stamp, Fault<'a>> {
     let stamp = match word {
-        "now" => stamp_at(seconds(rt)?),
+        "now" => utc_stamp(seconds(rt)?),
         "local" => {
             let since = seconds(rt)?;
-            shown_at(since, seconds_ahead(rt, since)?)
+            clock_stamp(since, seconds_ahead(rt, since)?)
         }
-        _ => return stamp_of(word),
+        _ => return parse_stamp(word),
     };
     match stamp {
         Some(stamp) => Ok(stamp),
@@ -27,9 +27,9 @@ pub fn moment_of<'a>(rt: &HostRuntime, word: &str) -> Result<Stamp, Fault<'a>> {
 }
 
 /// The serial that the word names, and whether a later free one will do, as with `auto` (the seconds since 1970).
-pub fn serial_from<'a>(rt: &HostRuntime, word: &str) -> Result<(u32, bool), Fault<'a>> {
+pub fn named_serial<'a>(rt: &HostRuntime, word: &str) -> Result<(u32, bool), Fault<'a>> {
     if word != "auto" {
-        return Ok((serial_of(word)?, false));
+        return Ok((parse_serial(word)?, false));
     }
     let serial = seconds(rt)? % SERIALS;
     Ok((serial as u32, true))

@@ -33,7 +33,7 @@ pub fn flush_name<'a>(rt: &HostRuntime, base: &'a str, messages: usize) -> Resul
 pub type FolderMessages<'r> = FolderReader<RealDisk<&'r HostRuntime, Unknown>, SipDigest>;
 
 /// Looks at the base folder with this path, and reads each message from this number on. It changes nothing.
-pub fn look_into<'r, 'a>(
+pub fn open_folder_reader<'r, 'a>(
     rt: &'r HostRuntime,
     base: &'a str,
     first: u64,
@@ -84,7 +84,7 @@ pub fn load_base<'a>(
 /// Reads the base with this path: a file, or the messages of a folder.
 pub fn check_base<'a>(rt: &HostRuntime, base: &'a str) -> Result<(), Fault<'a>> {
     if is_folder(rt, base) {
-        look_into(rt, base, 0, None)?;
+        open_folder_reader(rt, base, 0, None)?;
     } else {
         read_file(rt, base, usize::MAX)?;
     }

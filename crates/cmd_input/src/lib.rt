@@ -1,5 +1,5 @@
 //! The input of commands: files, standard input, the clock, locks and bases; and the progress line. The stamp of a
-//! second is the one that the calendar gives it (`stamp_at`, `shown_at`). All else is proved to be safe and to end,
+//! second is the one that the calendar gives it (`utc_stamp`, `clock_stamp`). All else is proved to be safe and to end,
 //! and no more. Begin with `paths`, the names of files.
 #![tactic(auto)]
 
@@ -13,17 +13,17 @@ mod packets;
 mod paths;
 mod progress;
 
-pub use clock::{created_now, moment_of, serial_from};
+pub use clock::{created_now, named_serial, named_stamp};
 pub use folders::{
     FolderMessages, check_base, drawn_key, flush_name, is_folder, is_strange, is_unused, load_base,
-    look_into, messages_fault,
+    messages_fault, open_folder_reader,
 };
 pub use inputs::{
     BASE_START, MAX_INPUT, MAX_TEXT_FILE, input_fault, output_fault, read_file, read_given,
     read_if_given, read_link_file, read_links, read_standard_input,
 };
 pub use locks::{BaseLock, LinkLock, folder_fault, lead_to_one, lock_file, locked_folder};
-pub use moment::{shown_at, stamp_at};
+pub use moment::{clock_stamp, utc_stamp};
 pub use packets::{PacketInput, PacketStreams, Tossing};
-pub use paths::{PathName, PathNames, folder_path, names_of, text_path};
+pub use paths::{PathName, PathNames, folder_path, path_names, text_path};
 pub use progress::{ErasingOutput, Messages, Progress};

@@ -5,7 +5,7 @@ ghost use Rattle.disk_io.specs.{Device.Failed, declared.disk_error.DiskError.The
 use crate::paths::text_path;
 use cmd_status::{Fault, FileLock, print_rest};
 use disk_io::{DiskError, Watched};
-use disk_system::folder_of;
+use disk_system::parent_path;
 use echo_addr::Items;
 use echo_charset::push_word;
 use std::alloc::AllocError;
@@ -185,7 +185,7 @@ fn locked_base(rt: &HostRuntime, links: &str, path: &str) -> io::Result<Option<F
             Err(error) if error.kind() == ErrorKind::NotFound => {}
             answer => return answer,
         }
-        let folder = unless_missing(locked_at(rt, folder_of(path)))?;
+        let folder = unless_missing(locked_at(rt, parent_path(path)))?;
         if !fs::exists(rt, path)? {
             return Ok(folder);
         }

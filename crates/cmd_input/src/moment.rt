@@ -9,7 +9,7 @@ use model_steps::Stamp;
 const A_DAY: u64 = 86_400;
 
 /// The stamp this many seconds after 1970 began, in UTC without leap seconds. None if its year has over four digits.
-pub fn stamp_at(seconds: u64) -> Option<Stamp>
+pub fn utc_stamp(seconds: u64) -> Option<Stamp>
     ensures moment { IfSome result (IsMomentAt seconds) }
     ensures only { (stamp : model.Stamp) → IsMomentAt seconds stamp → result ≡ Some stamp }
 {
@@ -27,12 +27,12 @@ pub fn stamp_at(seconds: u64) -> Option<Stamp>
 }
 
 /// The stamp that a clock this many seconds ahead of UTC shows, this many seconds after 1970 began.
-pub fn shown_at(seconds: u64, ahead: i32) -> Option<Stamp>
+pub fn clock_stamp(seconds: u64, ahead: i32) -> Option<Stamp>
     ensures { IfSome result (IsShownAt seconds ahead) }
 {
     let later = i64::try_from(seconds).ok()?.checked_add(i64::from(ahead))?;
     let shown = u64::try_from(later).ok()?;
-    let stamp = stamp_at(shown)?;
+    let stamp = utc_stamp(shown)?;
     Some(stamp)
 }
 

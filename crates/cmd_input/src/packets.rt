@@ -2,7 +2,7 @@
 
 use crate::inputs::input_fault;
 use crate::paths::PathName;
-use crate::progress::{Progress, share_of};
+use crate::progress::{Progress, percentage};
 use cmd_status::{Fault, StreamPackets};
 use disk_io::{Buffered, Watched};
 use disk_system::open_regular;
@@ -96,7 +96,7 @@ impl Read for PacketInput<'_> {
 impl PacketInput<'_> {
     fn share(&self) -> u128 {
         match self.file.metadata() {
-            Ok(found) => share_of(self.read, found.len()),
+            Ok(found) => percentage(self.read, found.len()),
             Err(_) => 0,
         }
     }

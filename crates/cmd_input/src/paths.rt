@@ -53,7 +53,7 @@ pub struct PathNames<'a> {
 }
 
 /// The files that are named by words or by a list.
-pub fn names_of<'a>(rt: &HostRuntime, paths: &Paths<'a>) -> PathNames<'a> {
+pub fn path_names<'a>(rt: &HostRuntime, paths: &Paths<'a>) -> PathNames<'a> {
     let found = match paths.from {
         Some(list) => listed_names(rt, list),
         None => given_names(rt, paths.words.as_slice()),

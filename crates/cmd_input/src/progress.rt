@@ -144,7 +144,7 @@ impl ReadingProgress for Messages<'_, '_> {
 }
 
 /// The percentage of `all` that `some` is.
-pub fn share_of(some: u64, all: u64) -> u128 {
+pub fn percentage(some: u64, all: u64) -> u128 {
     (u128::from(some) * 100 / u128::from(all.max(1))).min(100)
 }
 

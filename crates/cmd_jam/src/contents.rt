@@ -1,6 +1,6 @@
 use crate::named::{bytes_of, jam_fault, open_file};
 use cmd_status::Fault;
-use echo_jam::{Standing, standing_in};
+use echo_jam::{Standing, read_standing};
 use std::fs::File;
 
 #[derive(Drop)]
@@ -36,7 +36,7 @@ impl OtherFiles {
             Ok(found) => found.len(),
             Err(error) => return Err(jam_fault(&error, path)),
         };
-        match standing_in(headers, entries.as_slice(), texts_end) {
+        match read_standing(headers, entries.as_slice(), texts_end) {
             Some(standing) => Ok(Contents {
                 entries,
                 texts_end,

@@ -11,12 +11,12 @@ use crate::locked::{begun_again, locked_headers};
 use crate::named::{bytes_of, jam_fault, open_or_make, write_at};
 use crate::texts::{ROOM, Texts};
 use base_folder::MessageSource;
-use cmd_input::{is_folder, load_base, look_into};
+use cmd_input::{is_folder, load_base, open_folder_reader};
 use cmd_numbered::{JamBase, JamEnd, JamExport, JamExportError, export_jam, tell_added, tell_cuts};
-use cmd_status::{Fault, Status, ended, number_of};
+use cmd_status::{Fault, Status, ended, parse_number};
 use cmd_words::ExportJamWords;
 use disk_io::{Sink, Watched};
-use echo_jam::{Last, Standing, counts_after, link_replies};
+use echo_jam::{Last, Standing, link_replies, next_counts};
 use std::alloc::AllocError;
 use std::fs::File;
 use std::io;
@@ -80,13 +80,13 @@ fn jam_given<'a>(
     words: &ExportJamWords<'a>,
 ) -> Result<(JamFiles, JamExport, io::Result<()>), Fault<'a>> {
     let first = match words.from {
-        Some(word) => number_of(word)?,
+        Some(word) => parse_number(word)?,
         None => 0,
     };
     let path = words.jam;
     let headers = locked_headers(rt, path, words.base);
     if is_folder(rt, words.base) {
-        let mut messages = look_into(rt, words.base, 0, None)?;
+        let mut messages = open_folder_reader(rt, words.base, 0, None)?;
         let files = jam_files(rt, path, headers?)?;
         let (exported, sent) = jam_under(rt, words, first, &files, &mut messages)?;
         return Ok((files, exported, sent));
@@ -234,7 +234,7 @@ fn write_jam(rt: &HostRuntime, files: &JamFiles, exported: &JamExport) -> io::Re
         return Ok(());
     }
     let jam = &exported.adding.jam;
-    let counts = counts_after(rt.alloc(), standing, added)?;
+    let counts = next_counts(rt.alloc(), standing, added)?;
     let headers = linked_headers(rt, files, exported)?;
     let new = headers.get(files.found.len()..).unwrap_or(&[]);
     write_at(&files.headers, new, u64::from(files.end.headers))?;

@@ -4,7 +4,7 @@
 use crate::named::{check_file, jam_fault, open_file, open_or_make, with_end, write_at};
 use cmd_input::{check_base, created_now, lock_file, locked_folder, output_fault};
 use cmd_status::Fault;
-use disk_system::{BY_UMASK, NewFile, create_file, flush_folder, folder_of, remove_left};
+use disk_system::{BY_UMASK, NewFile, create_file, flush_folder, parent_path, remove_left};
 use echo_jam::new_fixed;
 use std::fs::File;
 use std::{fs, io};
@@ -55,7 +55,7 @@ fn begin_alone<'a>(
     headers: &str,
     staging_path: &str,
 ) -> Result<(), Fault<'a>> {
-    let locked = match locked_folder(rt, folder_of(path)) {
+    let locked = match locked_folder(rt, parent_path(path)) {
         Ok(locked) => locked,
         Err(Fault::OutOfMemory) => return Err(Fault::OutOfMemory),
         Err(_) => return Err(Fault::CannotUse(path)),
@@ -83,7 +83,7 @@ fn begin_jam<'a>(rt: &HostRuntime, path: &'a str, headers: &str) -> Result<(), F
         mode: BY_UMASK,
     };
     create_file(rt.alloc(), rt, new).map_err(|fault| output_fault(fault, path))?;
-    flush_folder(rt, folder_of(headers)).map_err(|fault| output_fault(fault, path))
+    flush_folder(rt, parent_path(headers)).map_err(|fault| output_fault(fault, path))
 }
 
 // Makes the other files, if they are missing, and flushes their folder. The index of a new base has no bytes.
@@ -95,7 +95,7 @@ fn make_others<'a>(rt: &HostRuntime, path: &'a str, is_new: bool) -> Result<(), 
     }
     open_or_make(rt, path, ".jdt").map_err(|error| jam_fault(&error, path))?;
     open_or_make(rt, path, ".jlr").map_err(|error| jam_fault(&error, path))?;
-    flush_folder(rt, folder_of(path)).map_err(|fault| output_fault(fault, path))
+    flush_folder(rt, parent_path(path)).map_err(|fault| output_fault(fault, path))
 }
 
 /// The headers of a base that a power cut may have cut. If they are zeros, the base is made again. If they are the

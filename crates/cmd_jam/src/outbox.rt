@@ -7,7 +7,7 @@ use crate::contents::{Contents, OtherFiles};
 use crate::locked::locked_again;
 use crate::named::{bytes_of, jam_fault, write_at};
 use cmd_status::Fault;
-use echo_jam::{ATTRIBUTE_AT, JamDraft, Last, counts_after, read_jam, sent_attribute, unsent_at};
+use echo_jam::{ATTRIBUTE_AT, JamDraft, Last, next_counts, read_jam, read_unsent, sent_attribute};
 use std::fs::File;
 use std::os::unix::fs::FileExt;
 
@@ -68,7 +68,7 @@ impl<'a> Outbox<'a> {
     /// The message of an entry, if it is to be posted.
     pub fn unsent(&self, rt: &HostRuntime, i: usize) -> Result<Option<OutboxMessage>, Fault<'a>> {
         let (headers, index) = (self.found.as_slice(), self.contents.entries.as_slice());
-        match unsent_at(headers, index, self.contents.texts_end, i) {
+        match read_unsent(headers, index, self.contents.texts_end, i) {
             Some(last) => Ok(Some(self.with_text(rt, last, i)?)),
             None => Ok(None),
         }
@@ -138,7 +138,7 @@ impl<'a> Outbox<'a> {
         if !self.marked {
             return Ok(());
         }
-        let counts = counts_after(rt.alloc(), self.contents.standing, 0)?;
+        let counts = next_counts(rt.alloc(), self.contents.standing, 0)?;
         write_at(&self.headers, counts.as_slice(), COUNTS_AT).map_err(|error| jam_fault(
             &error, self.path,
         ))

@@ -1,7 +1,7 @@
 use crate::linking::run_links;
 use crate::nets::{run_check, run_picture, run_replay, run_why};
 use crate::printing::{run_nodelist, run_show};
-use cmd_input::{Progress, names_of};
+use cmd_input::{Progress, path_names};
 use cmd_status::{Status, ended};
 use cmd_words::NetWords;
 use disk_io::Sink;
@@ -19,16 +19,21 @@ pub fn run_net<W: Sink, E: Sink>(
             ended(run_show(rt, *hex, *text, *packet, out), errors)
         }
         NetWords::Nodelist { find, file } => ended(run_nodelist(rt, *find, *file, out), errors),
-        NetWords::Check(words) => { run_check(rt, words, &names_of(rt, &words.links), out, errors) }
-        NetWords::Links { areas, links } => {
-            run_links(rt, *areas, &names_of(rt, links), out, errors)
+        NetWords::Check(words) => {
+            run_check(rt, words, &path_names(rt, &words.links), out, errors)
         }
-        NetWords::Why(words) => ended(run_why(rt, words, &names_of(rt, &words.links), out), errors),
+        NetWords::Links { areas, links } => {
+            run_links(rt, *areas, &path_names(rt, links), out, errors)
+        }
+        NetWords::Why(words) => ended(
+            run_why(rt, words, &path_names(rt, &words.links), out),
+            errors,
+        ),
         NetWords::Picture(words) => {
-            run_picture(rt, words, &names_of(rt, &words.links), out, errors)
+            run_picture(rt, words, &path_names(rt, &words.links), out, errors)
         }
         NetWords::Replay { script, links } => {
-            let links = names_of(rt, links);
+            let links = path_names(rt, links);
             ended(run_replay(rt, *script, &links, progress, out), errors)
         }
     }

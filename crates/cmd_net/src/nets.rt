@@ -1,6 +1,7 @@
 use cmd_check::{
-    Besides, Judged, Supposed, SupposedHere, check, check_all, check_supposing, picture,
-    picture_why, picture_without, print_supposed, replay, suppose, unknown_in, why,
+    Besides, Judged, Supposed, SupposedHere, check, check_all, check_supposing,
+    first_unknown_address, picture, picture_remaining, picture_why, print_supposed, replay,
+    suppose, why,
 };
 use cmd_input::{
     MAX_INPUT, MAX_TEXT_FILE, PathNames, Progress, read_file, read_if_given, read_links,
@@ -264,7 +265,7 @@ fn pictured_without<'a, W: Sink>(
     out: &mut W,
 ) -> Result<Judged, Fault<'a>> {
     let (files, stopped) = read_links(rt, links);
-    let unknown = unknown_in(rt.alloc(), &files, supposed.without)?;
+    let unknown = first_unknown_address(rt.alloc(), &files, supposed.without)?;
     if let Some(fault) = stopped {
         return Err(fault);
     }
@@ -273,7 +274,7 @@ fn pictured_without<'a, W: Sink>(
     }
     let mut files = files;
     let here = suppose(rt.alloc(), tag.as_bytes(), &mut files, supposed)?;
-    let status = picture_without(rt.alloc(), tag.as_bytes(), &files, supposed.without, out)?;
+    let status = picture_remaining(rt.alloc(), tag.as_bytes(), &files, supposed.without, out)?;
     print_supposed(rt.alloc(), b"// ", &here, supposed.without, out)?;
     Ok(Judged::Ended(status))
 }

@@ -1,7 +1,7 @@
 use crate::notes::{FaultLine, tell};
 use crate::reasons::{PathState, Reason, State, WrongLine};
 use crate::states::{Usage, state_at};
-use cmd_input::{MAX_TEXT_FILE, folder_path, is_folder, lead_to_one, names_of, read_file};
+use cmd_input::{MAX_TEXT_FILE, folder_path, is_folder, lead_to_one, path_names, read_file};
 use cmd_show::{FaultyLine, Judged, judge};
 use cmd_status::Fault;
 use cmd_words::{Paths, Place};
@@ -64,7 +64,7 @@ fn explain_line<E: Sink>(met: FaultLine<'_>, path: &str, line: &FaultyLine, erro
 }
 
 pub(crate) fn explain_paths<E: Sink>(met: FaultLine<'_>, paths: &Paths<'_>, errors: &mut E) {
-    let found = names_of(met.rt, paths);
+    let found = path_names(met.rt, paths);
     for name in &found.names {
         if let Ok(path) = name.path() {
             explain_path(met, path, Usage::File, errors);
@@ -74,7 +74,7 @@ pub(crate) fn explain_paths<E: Sink>(met: FaultLine<'_>, paths: &Paths<'_>, erro
 
 /// The link files of a net, up to the first faulty one.
 pub(crate) fn explain_net<E: Sink>(met: FaultLine<'_>, links: &Paths<'_>, errors: &mut E) {
-    let found = names_of(met.rt, links);
+    let found = path_names(met.rt, links);
     for name in &found.names {
         if let Ok(path) = name.path() {
             if explain_links(met, path, errors) {

@@ -11,7 +11,7 @@ use crate::states::Usage;
 use crate::word_notes::{
     explain_area, explain_fields, explain_index, explain_moment, explain_word, has_none_of,
 };
-use cmd_input::{MAX_TEXT_FILE, names_of, read_file};
+use cmd_input::{MAX_TEXT_FILE, path_names, read_file};
 use cmd_status::{Fault, print_rest};
 use cmd_words::{
     BaseWords, CheckWords, NetWords, ParsedLine, PostStoredWords, PostWords, ReplyWords,
@@ -281,7 +281,7 @@ fn explain_toss<E: Sink>(met: FaultLine<'_>, words: &TossWords<'_>, errors: &mut
     explain_path(met, words.place.base, Usage::Changed, errors);
     explain_paths(met, &words.packets, errors);
     if met.is_of_packet() {
-        let found = names_of(met.rt, &words.packets);
+        let found = path_names(met.rt, &words.packets);
         explain_packets(met, words, &found.names, errors);
     }
 }

@@ -1,7 +1,7 @@
 use crate::notes::{FaultLine, tell};
 use crate::reasons::{FaultyPacket, Misdelivered, PacketPlace, Reason};
 use cmd_input::{MAX_TEXT_FILE, PathName, read_file};
-use cmd_status::{Fault, LIMITS, limits_for, number_of};
+use cmd_status::{Fault, LIMITS, capped_limits, parse_number};
 use cmd_words::TossWords;
 use disk_io::{Buffered, Sink, Watched};
 use disk_system::open_regular;
@@ -54,8 +54,8 @@ fn limits_of(text_limit: Option<&str>) -> Limits {
     let Some(word) = text_limit else {
         return LIMITS;
     };
-    match number_of(word) {
-        Ok(most) => limits_for(most),
+    match parse_number(word) {
+        Ok(most) => capped_limits(most),
         Err(_) => LIMITS,
     }
 }

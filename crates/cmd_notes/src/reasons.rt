@@ -150,7 +150,7 @@ fn push_reason(lines: &mut Vec<u8>, why: Reason<'_>) -> Result<(), AllocError>
 {
     match why {
         Reason::Line(line) => push_line(lines, line),
-        Reason::Path(found) => push_path(lines, found),
+        Reason::Path(found) => push_file_path(lines, found),
         Reason::NotForUs(wrong) => push_misdelivered(lines, wrong),
         Reason::Packet(faulty) => push_faulty(lines, faulty),
         Reason::TooLong(long) => push_long(lines, long),
@@ -213,7 +213,7 @@ fn expectation(fault: LinkFault) -> &'static [u8]
     }
 }
 
-fn push_path(lines: &mut Vec<u8>, found: PathState<'_>) -> Result<(), AllocError>
+fn push_file_path(lines: &mut Vec<u8>, found: PathState<'_>) -> Result<(), AllocError>
     ensures { OnOk result (lines.new.items ≡ lines.old.items ++ path_reason found.entry) }
 {
     push_word(lines, found.path.as_bytes())?;

@@ -1,5 +1,5 @@
 use crate::reasons::{PathState, State};
-use disk_system::folder_of;
+use disk_system::parent_path;
 use std::fs::Metadata;
 use std::io::ErrorKind;
 use std::{fs, io};
@@ -37,7 +37,7 @@ fn missing_at<'a>(
         ErrorKind::NotFound | ErrorKind::NotADirectory => match usage {
             Usage::File | Usage::Base => State::NoFile,
             Usage::Folder => State::NoFolder,
-            Usage::Changed | Usage::New => return no_folder(rt, folder_of(path)),
+            Usage::Changed | Usage::New => return no_folder(rt, parent_path(path)),
         },
         ErrorKind::PermissionDenied => State::Denied,
         _ => return None,

@@ -3,8 +3,8 @@
 use crate::notes::{FaultLine, is_there, tell};
 use crate::reasons::{LongField, Reason, WordForm, WrongWord};
 use base_folder::{BaseReader, MessageSource, fetch_message};
-use cmd_input::{is_folder, load_base, look_into, read_file};
-use cmd_status::{Fault, number_of};
+use cmd_input::{is_folder, load_base, open_folder_reader, read_file};
+use cmd_status::{Fault, parse_number};
 use cmd_words::ReplyWords;
 use disk_io::Sink;
 use echo_filed::Filed;
@@ -76,7 +76,7 @@ pub(crate) fn explain_index<E: Sink>(met: FaultLine<'_>, words: &ReplyWords<'_>,
     if !met.is(Fault::BadNumber) {
         return;
     }
-    match number_of(words.index) {
+    match parse_number(words.index) {
         Ok(number) => match count_of(met.rt, words.place.base) {
             Some(count) if number >= count => {
                 tell(met.rt, Reason::NoMessage(number, count), errors)
@@ -94,7 +94,7 @@ fn count_of(rt: &HostRuntime, path: &str) -> Option<u64> {
         return Some(0);
     }
     if is_folder(rt, path) {
-        let messages = look_into(rt, path, u64::MAX, None).ok()?;
+        let messages = open_folder_reader(rt, path, u64::MAX, None).ok()?;
         return Some(messages.count() as u64);
     }
     let messages = load_base(rt, path).ok()?;
@@ -110,7 +110,7 @@ pub(crate) fn has_none_of(rt: &HostRuntime, path: &str, tag: &str) -> bool {
 fn none_of(rt: &HostRuntime, path: &str, tag: &str) -> Option<bool> {
     let tag = tag.as_bytes().to_ascii_uppercase(rt.alloc()).ok()?;
     if is_folder(rt, path) {
-        let mut messages = look_into(rt, path, u64::MAX, None).ok()?;
+        let mut messages = open_folder_reader(rt, path, u64::MAX, None).ok()?;
         return lacks_area(&mut messages, path, &tag);
     }
     none_in_file(rt, path, &tag)

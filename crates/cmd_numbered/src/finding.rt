@@ -14,7 +14,7 @@ use cmd_status::Fault;
 use echo_addr::{Address, Items, is_blank};
 use echo_charset::Charset;
 use echo_filed::Filed;
-use echo_stored::first_after;
+use echo_stored::first_value;
 use echo_text::{MsgId, one_id_is_spelled, written_id_read_back};
 use std::alloc::{AllocError, Global};
 use std::hash::BuildHasher;
@@ -37,11 +37,11 @@ pub fn find_answered<'a, S: BuildHasher + Drop>(
     ensures { AnsweredAnswers id.now base.now result }
 {
     let mut messages = BaseReader::read(alloc, base, hasher)?;
-    find_answered_of(alloc, id, "", &mut messages)
+    find_answered_streamed(alloc, id, "", &mut messages)
 }
 
 /// Searches messages that are read one by one, of the base with this path.
-pub fn find_answered_of<'a, M: MessageSource>(
+pub fn find_answered_streamed<'a, M: MessageSource>(
     alloc: Global,
     id: &[u8],
     path: &'a str,
@@ -100,7 +100,7 @@ fn has_id(message: &Filed, id: &[u8]) -> bool
 fn charset_of(message: &Filed) -> Option<Charset>
     ensures { result ≡ charset_of message.now }
 {
-    match first_after(b"\x01CHRS:", message.echo.kept.as_text()) {
+    match first_value(b"\x01CHRS:", message.echo.kept.as_text()) {
         Some(label) => Charset::named(name_in(label)),
         None => Some(Charset::Cp437),
     }
@@ -139,11 +139,11 @@ pub fn is_posted<'a, S: BuildHasher + Drop>(
     ensures { PostedAnswers words.entry base.now result }
 {
     let mut messages = BaseReader::read(alloc, base, hasher)?;
-    is_posted_of(alloc, words, "", &mut messages)
+    is_posted_streamed(alloc, words, "", &mut messages)
 }
 
 /// Judges messages that are read one by one, of the base with this path.
-pub fn is_posted_of<'a, M: MessageSource>(
+pub fn is_posted_streamed<'a, M: MessageSource>(
     alloc: Global,
     words: PostedWords<'_>,
     path: &'a str,

@@ -14,11 +14,12 @@ mod telling;
 
 pub use adding::{Adding, JamBase, JamEnd, JamExport, export_jam};
 pub use finding::{
-    Answered, PostedWords, find_answered, find_answered_of, is_posted, is_posted_of, own_serial,
+    Answered, PostedWords, find_answered, find_answered_streamed, is_posted, is_posted_streamed,
+    own_serial,
 };
 pub use folder::{LastFile, MessageFile, MessageFolder};
 pub use jam_export_error::JamExportError;
-pub use names::{is_left, number_in};
+pub use names::{is_left, stored_number};
 pub use numbering::{ExportError, Exported, export_files};
-pub use resending::{resend, resend_of};
+pub use resending::{resend, resend_streamed};
 pub use telling::{refuse_message, tell_added, tell_cuts, tell_exported, tell_refused};

@@ -15,7 +15,7 @@ const MOST: u32 = 99_999_999;
 const BESIDE: &[u8] = b".~msg~.new";
 
 /// The number of the stored message with this name; none if it is no such name.
-pub fn number_in(name: &[u8]) -> Option<u32>
+pub fn stored_number(name: &[u8]) -> Option<u32>
     ensures { result ≡ number_of_name name.now }
 {
     if ends_in_msg(name) {
@@ -51,7 +51,7 @@ pub fn is_left(name: &[u8]) -> bool
     ensures { result ≡ is_left name.now }
 {
     let front = name.len().saturating_sub(BESIDE.len());
-    &name[front..] == BESIDE && number_in(&name[..front]).is_some()
+    &name[front..] == BESIDE && stored_number(&name[..front]).is_some()
 }
 
 pub(crate) fn file_name(alloc: Global, number: u128) -> Result<Vec<u8>, AllocError>

@@ -10,7 +10,7 @@ use echo_addr::Items;
 use echo_filed::Filed;
 use echo_links::LinkFile;
 use echo_packet::PackedCopy;
-use echo_toss::{Resend, header_to, push_resent};
+use echo_toss::{Resend, packet_header, push_resent};
 use model_steps::{Packet, ScanFault, is_stamp};
 use std::alloc::{AllocError, Global};
 use std::hash::BuildHasher;
@@ -27,11 +27,11 @@ pub fn resend<'a, S: BuildHasher + Drop>(
     ensures { ResendAnswers links asked.entry.stamp asked.entry.area.now asked.entry.to asked.entry.first base.now result }
 {
     let mut messages = BaseReader::read(alloc, base, hasher)?;
-    resend_of(alloc, asked, &links, "", &mut messages)
+    resend_streamed(alloc, asked, &links, "", &mut messages)
 }
 
 /// Takes messages that are read one by one, of the base with this path.
-pub fn resend_of<'a, M: MessageSource>(
+pub fn resend_streamed<'a, M: MessageSource>(
     alloc: Global,
     asked: Resend<'_>,
     links: &LinkFile,
@@ -56,7 +56,7 @@ pub fn resend_of<'a, M: MessageSource>(
     };
     let copies = copies_of(alloc, asked, links, path, messages)?;
     Ok(Packet {
-        header: header_to(links, asked.stamp, asked.to),
+        header: packet_header(links, asked.stamp, asked.to),
         messages: Items::new(copies),
     })
 }

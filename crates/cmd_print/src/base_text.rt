@@ -47,7 +47,7 @@ fn push_head(
     let tag = &message.echo.tag;
     push_number(lines, i)?;
     lines.extend_from_slice(tag.as_slice())?;
-    push_origin(lines, message.sender)?;
+    push_sender(lines, message.sender)?;
     lines.extend_from_slice(mark(i >= cursor, is_purged(message)))
 }
 
@@ -57,7 +57,7 @@ fn push_number(lines: &mut Vec<u8>, i: usize) -> Result<(), AllocError>
     written(write!(lines, "message {i} area "))
 }
 
-fn push_origin(lines: &mut Vec<u8>, sender: Option<Address>) -> Result<(), AllocError>
+fn push_sender(lines: &mut Vec<u8>, sender: Option<Address>) -> Result<(), AllocError>
     ensures { OnOk result (lines.new.items ≡ lines.old.items ++ origin_text sender) }
 {
     match sender {

@@ -11,7 +11,7 @@ ghost use Rattle.cmd_repair.specs.Words as words;
 use crate::gathering::{gather_ids, ids_of};
 use crate::words::{push_area, push_end};
 use base_folder::MessageSource;
-use cmd_status::{Fault, Status, pass_on, print_rest};
+use cmd_status::{Fault, Status, flush_piece, print_rest};
 use disk_io::Sink;
 use echo_charset::push_escaped;
 use std::alloc::{AllocError, Global};
@@ -79,5 +79,5 @@ fn print_id<'a, W: Sink>(id: &[u8], lines: &mut Vec<u8>, out: &mut W) -> Result<
     ensures err { IfErr result (Stops (W.failures out.old) (W.failures out.new)) }
 {
     push_escaped(lines, b"id", id)?;
-    pass_on(lines, out)
+    flush_piece(lines, out)
 }

@@ -10,15 +10,15 @@ ghost use Rattle.cmd_repair.specs.Repair.{AreLegibleFrom, IsStopped, IsUndone, I
 
 use crate::known::KnownIds;
 use crate::send_fault::SendFault;
-use base_folder::{MessageSource, begin_at, fetch_message};
-use cmd_status::{Fault, pass_on};
+use base_folder::{MessageSource, fetch_message, start_number};
+use cmd_status::{Fault, flush_piece};
 use disk_io::{Sink, Watched, send};
 use echo_addr::Address;
 use echo_charset::{push_escaped, written};
 use echo_filed::Filed;
 use echo_links::LinkFile;
 use echo_packet::{send_header, send_terminator};
-use echo_toss::{CountedPacket, Resend, header_to, is_whole_in, push_exported};
+use echo_toss::{CountedPacket, Resend, is_resendable, packet_header, push_exported};
 use model_steps::{ScanFault, is_stamp};
 use std::alloc::{AllocError, Global};
 use std::io::Write;
@@ -71,7 +71,7 @@ pub fn send_all<'a, M: MessageSource, W: Sink>(
 fn header_of(alloc: Global, asked: Resend<'_>, links: &LinkFile) -> Result<Vec<u8>, AllocError>
     ensures { IfOk result (λ bytes. bytes.items ≡ header_bytes (header_to links.now asked.entry.stamp asked.entry.to)) }
 {
-    let header = header_to(links, asked.stamp, asked.to);
+    let header = packet_header(links, asked.stamp, asked.to);
     let mut bytes = Watched::new(Vec::new(alloc));
     match send_header(&mut bytes, &header, &mut 0) {
         Ok(()) => Ok(bytes.into_inner()),
@@ -100,7 +100,7 @@ fn send_messages<'a, M: MessageSource, W: Sink>(
 {
     let count = messages.count();
     let mut counted = CountedPacket::empty(repair.to);
-    'messages: for i in begin_at(first as u64, count)..count {
+    'messages: for i in start_number(first as u64, count)..count {
         fetch_message(messages, path, i)?;
         counted = send_at(alloc, repair, messages.at_hand(), counted, piece, out)?;
     }
@@ -127,7 +127,7 @@ fn send_at<'a, W: Sink>(
         return Ok(counted);
     }
     let more = add_copy(alloc, repair, message, counted, piece)?;
-    match pass_on(piece, out) {
+    match flush_piece(piece, out) {
         Ok(()) => Ok(more),
         Err(_) => Err(SendFault::Device),
     }
@@ -157,7 +157,7 @@ fn add_copy(
 fn is_sent(alloc: Global, repair: Repair<'_, '_>, message: &Filed) -> Result<bool, AllocError>
     ensures { IfOk result (λ is. is ≡ is_sent (option_copied repair.entry.held) repair.entry.area.now message.now) }
 {
-    if !is_whole_in(repair.area, message) {
+    if !is_resendable(repair.area, message) {
         return Ok(false);
     }
     match repair.held {

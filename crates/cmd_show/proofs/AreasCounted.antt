@@ -3,7 +3,7 @@ use Rattle.std.proofs.Common.{◌≡◌, ℕ, ◌+◌, ◌-◌, ◌<◌, ◌∙�
 use Rattle.std.proofs.{lemmas.List.drop-append-le, lemmas.List.drop_all, lemmas.List.length-append, lemmas.List.take-append-le, lemmas.List.take_more, lemmas.Map.Text.is_eq-slice_cmp, lemmas.Option.slice_get-get_or, lemmas.Option.slice_get_cases, Math.Bool.or_comm, lemmas.Bool.cases_lt, lemmas.Bool.le-leb, lemmas.Bool.lt-leb, lemmas.List.Folds.list_any-append, lemmas.List.Sums.sum_by-append, lemmas.List.Sums.sum_by-cons}
 use Rattle.std.specs.{Prelude.bytes_eq, Prelude.count_by, Prelude.is_some, Prelude.nat_le, Prelude.slice_get, Prelude.unwrap_or, declared.cmp.Ordering.Ordering, declared.cmp.Ordering.TheVariants.Less, Ordering.is_eq, Ordering.nat_cmp, List.AllByRecursion, List.flat_map, List.list_any, List.Sorted.IsStrictlySortedBy, Map.keys_of, Map.lookup, BTreeMap.insert_entry, Cmp.Lexicographic.bytes_decides, Cmp.Lexicographic.slice_cmp}
 use Rattle.base_file.specs.Base.{Base}
-use Rattle.echo_export.specs.declared.json_line.State.{State}
+use Rattle.echo_export.specs.declared.json_line.MessageState.{MessageState}
 use Rattle.echo_filed.specs.Filed.{Filed}
 use Rattle.echo_links.proofs.Found.{bytes_turned, lookup_inserted}
 use Rattle.cmd_print.specs.BaseListed.{total_text}
@@ -45,7 +45,7 @@ more_counts : (tag : List ℕ) (xs : List Filed) (m : Filed) (cursor : ℕ)
     → area_counts (xs ++ m ∷ []) cursor tag ≡ cond (is_in tag m) (counted_more (area_counts xs cursor tag) (state_of cursor (length xs) m)) (area_counts xs cursor tag)
 more_counts tag xs m cursor = grind (arith, one_counted, counted_last, waiting_last, scanned_last)
 
-within_more : (i : ℕ) (c : AreaCounts) (state : State) → AreWithin i c → AreWithin (i + 1) (counted_more c state)
+within_more : (i : ℕ) (c : AreaCounts) (state : MessageState) → AreWithin i c → AreWithin (i + 1) (counted_more c state)
 within_more i c state h1 = grind arith
 
 pub within_next : (i : ℕ) (c : AreaCounts) → AreWithin i c → AreWithin (i + 1) c
@@ -77,7 +77,7 @@ module _ {K : Type 0} (bytes : K → List ℕ) where
       → counts_of bytes (insert_entry key_order es k v) tag ≡ cond (is_key tag k) v (counts_of bytes es tag)
   counts_inserted tag es k v = ap (λ o. unwrap_or o no_counts) (lookup_inserted bytes tag es k v) ∙ unwrapped (is_key tag k) v (lookup (is_key tag) es)
 
-  pub within_inserted : (i : ℕ) (es : List (K × AreaCounts)) (k : K) (tag : List ℕ) (state : State) (v : AreaCounts)
+  pub within_inserted : (i : ℕ) (es : List (K × AreaCounts)) (k : K) (tag : List ℕ) (state : MessageState) (v : AreaCounts)
       → v ≡ counted_more (counts_of bytes es tag) state → ((t : List ℕ) → AreWithin i (counts_of bytes es t))
       → (t : List ℕ) → AreWithin (i + 1) (counts_of bytes (insert_entry key_order es k v) t)
   within_inserted i es k tag state v is within t = grind (arith, counts_inserted, within_more, within_next)

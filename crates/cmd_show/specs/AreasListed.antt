@@ -1,7 +1,7 @@
 -- The lines and the answer of `list --areas`.
 use Rattle.std.specs.Prelude.{◌≡◌, ◌≤◌, ℕ, ◌+◌, ◌-◌, ◌&&◌, Bool, List, ◌++◌, length, take, drop, codes, decimal, bytes_eq, count_by, is_some, Option, Some, unwrap_or, Result}
 use Rattle.std.specs.{Ordering.is_eq, Ordering.nat_cmp, Cmp.Lexicographic.slice_cmp, List.flat_map, List.list_any, List.Sorted.IsStrictlySortedBy, Map.keys_of, Map.lookup}
-use Rattle.echo_export.specs.declared.json_line.State.{State, TheVariants.Purged, TheVariants.Scanned, TheVariants.Waiting}
+use Rattle.echo_export.specs.declared.json_line.MessageState.{MessageState, TheVariants.Purged, TheVariants.Scanned, TheVariants.Waiting}
 use Rattle.base_file.specs.Base.{Base}
 use Rattle.echo_filed.specs.Filed.{Filed}
 use Rattle.cmd_print.specs.BaseListed.{is_purged, total_text}
@@ -55,7 +55,7 @@ ListAreasAnswers file old new answer = Answers (AreAreasListed file) (IsBaseFaul
 abbrev pub no_counts : AreaCounts
 no_counts = record { messages = 0; waiting = 0; purged = 0 }
 
-abbrev pub counted_more : AreaCounts → State → AreaCounts
+abbrev pub counted_more : AreaCounts → MessageState → AreaCounts
 counted_more c Scanned = record { messages = c.messages + 1; waiting = c.waiting; purged = c.purged }
 counted_more c Waiting = record { messages = c.messages + 1; waiting = c.waiting + 1; purged = c.purged }
 counted_more c Purged = record { messages = c.messages + 1; waiting = c.waiting; purged = c.purged + 1 }

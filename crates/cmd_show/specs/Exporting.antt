@@ -1,6 +1,6 @@
 -- The lines of `export` for the messages of a base, and its answer.
 use Rattle.std.specs.Prelude.{◌≡◌, ℕ, zero, suc, ◌+◌, ◌==◌, ◌&&◌, nat_le, Bool, true, false, List, [], ◌++◌, length, codes, decimal, if◌then◌else◌, slice_get, Option, Some, None, option_map, Result}
-use Rattle.echo_export.specs.{declared.json_line.State.State, declared.json_line.State.TheVariants.Purged, declared.json_line.State.TheVariants.Scanned, declared.json_line.State.TheVariants.Waiting, declared.form.Form.Form, Forms.message_lost, Forms.message_text}
+use Rattle.echo_export.specs.{declared.json_line.MessageState.MessageState, declared.json_line.MessageState.TheVariants.Purged, declared.json_line.MessageState.TheVariants.Scanned, declared.json_line.MessageState.TheVariants.Waiting, declared.form.Form.Form, Forms.message_lost, Forms.message_text}
 use Rattle.base_file.specs.Base.{Base}
 use Rattle.echo_filed.specs.Filed.{Filed}
 use Rattle.echo_links.specs.Links.{upper}
@@ -8,16 +8,16 @@ use Rattle.cmd_print.specs.BaseListed.{is_asked, is_purged}
 use Rattle.cmd_status.specs.{declared.fault.Fault.Fault, Devices.Output, Ended.AnswersInPieces, Inputs.IsBaseFault, Inputs.IsBaseGiven}
 
 -- The state of a message, by whether it waits for a scan and whether only the id of its text is left.
-abbrev pub state_by : Bool → Bool → State
+abbrev pub state_by : Bool → Bool → MessageState
 state_by true short = Waiting
 state_by false true = Purged
 state_by false false = Scanned
 
-abbrev pub state_of : ℕ → ℕ → Filed → State
+abbrev pub state_of : ℕ → ℕ → Filed → MessageState
 state_of cursor i m = state_by (nat_le cursor i) (is_purged m)
 
 -- Whether messages in this state are exported: purged ones only if they are requested.
-abbrev pub is_exported : Bool → State → Bool
+abbrev pub is_exported : Bool → MessageState → Bool
 is_exported purged Scanned = true
 is_exported purged Waiting = true
 is_exported purged Purged = purged

@@ -13,7 +13,7 @@ use cmd_print::push_base_total;
 use cmd_status::{Fault, Status, print_rest};
 use disk_io::Sink;
 use echo_charset::written;
-use echo_export::State;
+use echo_export::MessageState;
 use echo_filed::Filed;
 use std::alloc::{AllocError, Global};
 use std::collections::BTreeMap;
@@ -39,11 +39,11 @@ pub fn list_areas<'a, S: BuildHasher + Drop, W: Sink>(
     ensures { ListAreasAnswers base.now (output_of W.contents W.failures W.holds out.old) (output_of W.contents W.failures W.holds out.new) result }
 {
     let mut messages = BaseReader::read(alloc, base, hasher)?;
-    list_areas_of(alloc, "", &mut messages, out)
+    list_areas_streamed(alloc, "", &mut messages, out)
 }
 
 /// Counts messages that are read one by one, of the base with this path.
-pub fn list_areas_of<'a, M: MessageSource, W: Sink>(
+pub fn list_areas_streamed<'a, M: MessageSource, W: Sink>(
     alloc: Global,
     path: &'a str,
     messages: &mut M,
@@ -127,7 +127,7 @@ fn counts_of(counts: &BTreeMap<Vec<u8>, AreaCounts>, tag: &[u8]) -> AreaCounts
     }
 }
 
-fn counted_more(counts: AreaCounts, state: State) -> AreaCounts
+fn counted_more(counts: AreaCounts, state: MessageState) -> AreaCounts
     requires messages { counts.messages + 1 < 2 ^ 64 }
     requires waiting { counts.waiting + 1 < 2 ^ 64 }
     requires purged { counts.purged + 1 < 2 ^ 64 }
@@ -135,17 +135,17 @@ fn counted_more(counts: AreaCounts, state: State) -> AreaCounts
 {
     let messages = counts.messages + 1;
     match state {
-        State::Scanned => AreaCounts {
+        MessageState::Scanned => AreaCounts {
             messages,
             waiting: counts.waiting,
             purged: counts.purged,
         },
-        State::Waiting => AreaCounts {
+        MessageState::Waiting => AreaCounts {
             messages,
             waiting: counts.waiting + 1,
             purged: counts.purged,
         },
-        State::Purged => AreaCounts {
+        MessageState::Purged => AreaCounts {
             messages,
             waiting: counts.waiting,
             purged: counts.purged + 1,

@@ -25,13 +25,13 @@ const MOST: usize = 40;
 
 /// What a later line is judged by: the own address and the tags of the good lines so far.
 #[derive(Drop)]
-struct Before {
+struct EarlierLines {
     system: bool,
     name: bool,
     tags: Tags,
 }
 
-impl Model for Before {
+impl Model for EarlierLines {
     ghost use Rattle.cmd_show.specs.Before.{SaidBefore};
 
     ghost Value = { SaidBefore };
@@ -39,7 +39,7 @@ impl Model for Before {
     ghost view = { λ b. record { system = b.system; name = b.name; tags = b.tags } };
 }
 
-impl Before {
+impl EarlierLines {
     fn take<'a>(
         &mut self,
         alloc: Global,
@@ -144,7 +144,7 @@ impl Before {
 pub(crate) fn faulty_lines(alloc: Global, bytes: &[u8]) -> Result<Vec<FaultyLine>, AllocError>
     ensures { IfOk result (λ found. found.items ≡ faulty_lines bytes.now) }
 {
-    let mut before = Before {
+    let mut before = EarlierLines {
         system: false,
         name: false,
         tags: Tags::new(alloc),

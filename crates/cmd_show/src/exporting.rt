@@ -5,12 +5,12 @@ ghost use Rattle.cmd_show.specs.Exporting.{ExportAnswers, IsExported, is_exporte
 ghost use Rattle.cmd_show.specs.Fetching.{PrintsReading, StopsReading};
 
 use crate::listing::{is_of_area, upper_tag};
-use base_folder::{BaseReader, MessageSource, begin_at, fetch_message};
-use cmd_status::{Fault, pass_on, print_rest};
+use base_folder::{BaseReader, MessageSource, fetch_message, start_number};
+use cmd_status::{Fault, flush_piece, print_rest};
 use disk_io::Sink;
 use echo_addr::Items;
 use echo_charset::written;
-use echo_export::{Form, State, push_message};
+use echo_export::{Form, MessageState, push_message};
 use echo_filed::{Filed, is_stub};
 use std::alloc::{AllocError, Global};
 use std::hash::BuildHasher;
@@ -116,7 +116,7 @@ fn print_sought<'a, M: MessageSource, W: Sink>(
     let count = messages.count();
     let cursor = messages.cursor();
     let mut lost: u128 = 0;
-    'messages: for i in begin_at(sought.first, count)..count {
+    'messages: for i in start_number(sought.first, count)..count {
         fetch_message(messages, path, i)?;
         let more = print_one(alloc, sought, cursor, i, messages.at_hand(), lines, out)?;
         lost += more as u128;
@@ -148,7 +148,7 @@ fn print_one<'a, W: Sink>(
     }
     let state = state_of(cursor, i, message);
     let count = push_message(alloc, lines, sought.form, i, state, message)?;
-    pass_on(lines, out)?;
+    flush_piece(lines, out)?;
     Ok(count)
 }
 
@@ -162,23 +162,23 @@ fn is_sought(sought: &ExportFilter, cursor: usize, i: usize, message: &Filed) ->
         && is_exported(sought.purged, state)
 }
 
-fn is_exported(purged: bool, state: State) -> bool
+fn is_exported(purged: bool, state: MessageState) -> bool
     ensures { result ≡ is_exported purged state }
 {
     match state {
-        State::Scanned | State::Waiting => true,
-        State::Purged => purged,
+        MessageState::Scanned | MessageState::Waiting => true,
+        MessageState::Purged => purged,
     }
 }
 
-pub(crate) fn state_of(cursor: usize, i: usize, message: &Filed) -> State
+pub(crate) fn state_of(cursor: usize, i: usize, message: &Filed) -> MessageState
     ensures { result ≡ state_of cursor i message.now }
 {
     if i >= cursor {
-        State::Waiting
+        MessageState::Waiting
     } else if message.echo.msgid().is_some() && is_stub(message) {
-        State::Purged
+        MessageState::Purged
     } else {
-        State::Scanned
+        MessageState::Scanned
     }
 }

@@ -18,7 +18,7 @@ mod showing;
 mod tags;
 mod words;
 
-pub use area_counts::{AreaCounts, list_areas, list_areas_of};
+pub use area_counts::{AreaCounts, list_areas, list_areas_streamed};
 pub use exporting::{ExportQuery, export, export_messages, tell_lost};
 pub use faulty::FaultyLine;
 pub use judged::{Judged, judge};

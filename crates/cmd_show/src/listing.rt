@@ -5,9 +5,9 @@ ghost use Rattle.echo_links.specs.Links.{upper};
 ghost use Rattle.cmd_print.specs.BaseListed.{asked_text, is_asked, is_of_area, messages_text};
 ghost use Rattle.cmd_show.specs.{Fetching.PrintsReading, Fetching.StopsReading, Listing.IsListed, Listing.ListAnswers};
 
-use base_folder::{BaseReader, MessageSource, begin_at, fetch_message};
+use base_folder::{BaseReader, MessageSource, fetch_message, start_number};
 use cmd_print::{ListForm, push_base_total, push_listed};
-use cmd_status::{Fault, Status, pass_on, print_rest};
+use cmd_status::{Fault, Status, flush_piece, print_rest};
 use disk_io::Sink;
 use echo_addr::Items;
 use echo_filed::Filed;
@@ -100,7 +100,7 @@ fn print_messages<'a, M: MessageSource, W: Sink>(
 {
     let count = messages.count();
     let cursor = messages.cursor();
-    'messages: for i in begin_at(asked.first, count)..count {
+    'messages: for i in start_number(asked.first, count)..count {
         fetch_message(messages, path, i)?;
         print_message(asked, cursor, i, messages.at_hand(), lines, out)?;
     }
@@ -127,7 +127,7 @@ fn print_message<'a, W: Sink>(
         return Ok(());
     }
     push_listed(lines, asked.form, cursor, i, message)?;
-    pass_on(lines, out)
+    flush_piece(lines, out)
 }
 
 fn is_asked(asked: &ListFilter, i: usize, message: &Filed) -> bool

@@ -4,7 +4,7 @@ ghost use Rattle.cmd_show.specs.{Nodelists.NodelistAnswers, Nodelists.crc_status
 ghost use Rattle.cmd_print.specs.Listed.{Listed, RestListed, addressed_text};
 
 use cmd_print::{push_crc, push_entry, push_found, push_list_total};
-use cmd_status::{Fault, Status, pass_on, print_rest};
+use cmd_status::{Fault, Status, flush_piece, print_rest};
 use disk_io::Sink;
 use echo_addr::Address;
 use echo_nodelist::{CrcLine, Line, Nodelist, crc_line};
@@ -71,7 +71,7 @@ fn print_entry<'a, W: Sink>(
         return Ok(());
     };
     push_entry(lines, address, line)?;
-    pass_on(lines, out)
+    flush_piece(lines, out)
 }
 
 fn print_entries<'a, W: Sink>(
@@ -85,7 +85,7 @@ fn print_entries<'a, W: Sink>(
     ensures err { IfErr result (Stops (W.failures out.old) (W.failures out.new)) }
 {
     'entries: for (i, line) in list.lines().iter().enumerate() {
-        print_entry(list.address_of(i), line, lines, out)?;
+        print_entry(list.line_address(i), line, lines, out)?;
     }
     push_list_total(lines, list)?;
     Ok(())

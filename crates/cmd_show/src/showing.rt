@@ -6,7 +6,7 @@ ghost use Rattle.cmd_print.specs.{Said.TextShown, Shown.MessageShown, Shown.end_
 ghost use Rattle.cmd_show.specs.Showing.{DecodeAnswers, MessagePasses, PacketAnswers, PacketPasses, ShowAnswers};
 
 use cmd_print::{push_echo, push_end, push_fields, push_header, push_text};
-use cmd_status::{Fault, LIMITS, Status, pass_on, print_rest};
+use cmd_status::{Fault, LIMITS, Status, flush_piece, print_rest};
 use disk_io::Sink;
 use echo_packet::{Header, Packed, PacketReader};
 use echo_text::{TextFault, view_text};
@@ -133,7 +133,7 @@ fn pass_message<'a, W: Sink>(
     let mut more = Vec::new(alloc);
     push_message(alloc, full, &mut more, number, place, message)?;
     lines.append(&mut more)?;
-    pass_on(lines, out)
+    flush_piece(lines, out)
 }
 
 fn push_message<'a>(

@@ -3,12 +3,12 @@
 ghost use Rattle.std.specs.Prelude.{◌≡◌, None, OnOk};
 ghost use Rattle.station.specs.Opening.{AreFree};
 
-use crate::place::{Station, find_base, locks_of};
+use crate::place::{Station, find_base, station_locks};
 use crate::posting::new_message;
 use crate::running::{Before, run_at_station};
-use cmd_input::{MAX_TEXT_FILE, moment_of, read_file, read_standard_input, serial_from};
+use cmd_input::{MAX_TEXT_FILE, named_serial, named_stamp, read_file, read_standard_input};
 use cmd_numbered::refuse_message;
-use cmd_status::{Fault, FileLock, Status, number_of};
+use cmd_status::{Fault, FileLock, Status, parse_number};
 use cmd_store::{Answer, NewMessage, Post, PostMail, Purge, Reply};
 use cmd_words::{Place, PostStoredWords, PostWords, ReplyWords};
 use disk_io::Sink;
@@ -35,7 +35,7 @@ pub(crate) fn find_and_change<W: Sink, E: Sink>(
     out: &mut W,
     errors: &mut E,
 ) -> Status {
-    let mut locks = locks_of(rt, place);
+    let mut locks = station_locks(rt, place);
     let found = match find_base(rt, place, &mut locks) {
         Ok(found) => found,
         Err(fault) => return fault.report(errors),
@@ -86,7 +86,7 @@ pub(crate) fn find_and_post<'a, W: Sink, E: Sink>(
     out: &mut W,
     errors: &mut E,
 ) -> PostEnd {
-    let mut locks = locks_of(rt, place);
+    let mut locks = station_locks(rt, place);
     let found = match find_base(rt, place, &mut locks) {
         Ok(found) => found,
         Err(fault) => return PostEnd::Stopped(fault.report(errors)),
@@ -139,8 +139,8 @@ fn posting_of<'a>(
     rt: &HostRuntime,
     words: &PostWords<'a>,
 ) -> Result<(NewMessage<'a>, bool), Fault<'a>> {
-    let (serial, free) = serial_from(rt, words.serial)?;
-    let stamp = moment_of(rt, words.at)?;
+    let (serial, free) = named_serial(rt, words.serial)?;
+    let stamp = named_stamp(rt, words.at)?;
     Ok((new_message(words, serial, stamp), free))
 }
 
@@ -173,9 +173,9 @@ pub(crate) fn run_reply<W: Sink, E: Sink>(
 
 // The words of an answer, and the number of the message that it answers.
 fn answer_of<'a>(rt: &HostRuntime, words: &ReplyWords<'a>) -> Result<(Answer<'a>, u64), Fault<'a>> {
-    let (serial, free) = serial_from(rt, words.serial)?;
-    let stamp = moment_of(rt, words.at)?;
-    let index = number_of(words.index)?;
+    let (serial, free) = named_serial(rt, words.serial)?;
+    let stamp = named_stamp(rt, words.at)?;
+    let index = parse_number(words.index)?;
     let answer = Answer {
         from_name: words.from.as_bytes(),
         serial,
@@ -230,8 +230,8 @@ fn stored_given<'a>(
     rt: &HostRuntime,
     words: &PostStoredWords<'a>,
 ) -> Result<(u32, bool, Stamp, Vec<u8>), Fault<'a>> {
-    let (serial, free) = serial_from(rt, words.serial)?;
-    let stamp = moment_of(rt, words.at)?;
+    let (serial, free) = named_serial(rt, words.serial)?;
+    let stamp = named_stamp(rt, words.at)?;
     let message = read_file(rt, words.message, MAX_TEXT_FILE)?;
     Ok((serial, free, stamp, message))
 }

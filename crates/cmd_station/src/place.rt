@@ -8,8 +8,8 @@ use cmd_input::{BaseLock, LinkLock, is_folder};
 use cmd_status::{Fault, FileLock};
 use cmd_words::Place;
 use disk_io::Disk;
-use disk_system::{OutputFault, RealDisk, Unknown, target_of};
-use station::{Locks, links_at, lock_at};
+use disk_system::{OutputFault, RealDisk, Unknown, write_target};
+use station::{Locks, lock_and_read_links, take_lock};
 use station_bases::FolderProbe;
 
 /// The state of a base, and the files of the system for it. `path` is that of a base file, or the one before the names of
@@ -48,7 +48,7 @@ impl FoundBase<'_> {
 
 /// The locks of a station. The link file is already locked, if possible. So no other run changes the station from before
 /// its base is found until the command ends.
-pub fn locks_of<'a>(rt: &'a HostRuntime, place: Place<'a>) -> Locks<LinkLock<'a>, BaseLock<'a>>
+pub fn station_locks<'a>(rt: &'a HostRuntime, place: Place<'a>) -> Locks<LinkLock<'a>, BaseLock<'a>>
     ensures { AreFree (⟦<LinkLock<'a> as FileLock>⟧.held result.links) (⟦<BaseLock<'a> as FileLock>⟧.held result.base) }
 {
     Locks {
@@ -94,7 +94,7 @@ fn found_at<'a>(rt: &'a HostRuntime, base: &'a str) -> Result<FoundBase<'a>, Fau
 // The path of a base file, with symbolic links followed. If they lead to no file, that is a fault when the base is
 // written.
 fn followed<'a>(rt: &HostRuntime, base: &'a str) -> Result<String, Fault<'a>> {
-    match target_of(rt.alloc(), rt, base) {
+    match write_target(rt.alloc(), rt, base) {
         Ok(target) => Ok(target),
         Err(OutputFault::Memory) => Err(Fault::OutOfMemory),
         Err(OutputFault::Device) => Ok(String::from_str(rt.alloc(), base)?),
@@ -110,6 +110,6 @@ fn lock_both<'a, D: Disk, L: FileLock, K: FileLock>(
 ) -> Result<(), Fault<'a>>
     requires { AreFree (L.held locks.old.links) (K.held locks.old.base) }
 {
-    let _links = links_at(rt.alloc(), disk, &mut locks.links, place.links)?;
-    lock_at(&mut locks.base, place.base)
+    let _links = lock_and_read_links(rt.alloc(), disk, &mut locks.links, place.links)?;
+    take_lock(&mut locks.base, place.base)
 }

@@ -3,9 +3,9 @@ ghost use Rattle.std.specs.Prelude.{◌≡◌, None};
 
 use crate::changing::{BaseCommand, PostEnd, find_and_post};
 use base_file::BaseFault;
-use cmd_input::{LinkLock, is_folder, look_into, moment_of, read_file, serial_from};
+use cmd_input::{LinkLock, is_folder, named_serial, named_stamp, open_folder_reader, read_file};
 use cmd_jam::Outbox;
-use cmd_numbered::{PostedWords, is_posted, is_posted_of, own_serial, tell_refused};
+use cmd_numbered::{PostedWords, is_posted, is_posted_streamed, own_serial, tell_refused};
 use cmd_status::{Fault, FileLock, Status};
 use cmd_store::{NewMessage, Post};
 use cmd_words::{Place, PostJamWords};
@@ -14,7 +14,7 @@ use disk_system::{RealDisk, Unknown};
 use echo_addr::Address;
 use echo_jam::JamDraft;
 use model_steps::{PostFault, Stamp};
-use station::links_at;
+use station::lock_and_read_links;
 use std::collections::hash_map::RandomState;
 
 /// `post --jam PATH --area TAG`: the words are judged first, then the link file, then the JAM base. Each message is
@@ -95,8 +95,8 @@ struct JamPoster<'a> {
 impl<'a> JamPoster<'a> {
     // The station of these words: the serial and the stamp are judged first, then the link file.
     fn new(rt: &'a HostRuntime, words: &PostJamWords<'a>) -> Result<JamPoster<'a>, Fault<'a>> {
-        let (serial, _) = serial_from(rt, words.serial)?;
-        let stamp = moment_of(rt, words.at)?;
+        let (serial, _) = named_serial(rt, words.serial)?;
+        let stamp = named_stamp(rt, words.at)?;
         let mut disk = RealDisk::new(rt, Unknown);
         let mut lock = LinkLock::ahead(rt, words.place.links);
         let own = own_address(rt, &mut disk, &mut lock, words.place.links)?;
@@ -192,8 +192,8 @@ impl<'a> JamPoster<'a> {
         };
         let base = self.place.base;
         if is_folder(self.rt, base) {
-            let mut messages = look_into(self.rt, base, 0, None)?;
-            return is_posted_of(self.rt.alloc(), words, base, &mut messages);
+            let mut messages = open_folder_reader(self.rt, base, 0, None)?;
+            return is_posted_streamed(self.rt.alloc(), words, base, &mut messages);
         }
         let hasher = RandomState::new(self.rt).map_err(|_| Fault::Base(BaseFault::Read))?;
         let bytes = read_file(self.rt, base, usize::MAX)?;
@@ -218,6 +218,6 @@ fn own_address<'a, D: Disk, L: FileLock>(
 ) -> Result<Address, Fault<'a>>
     requires { L.held lock.old ≡ None }
 {
-    let links = links_at(rt.alloc(), disk, lock, path)?;
+    let links = lock_and_read_links(rt.alloc(), disk, lock, path)?;
     Ok(links.system())
 }

@@ -5,10 +5,10 @@ ghost use Rattle.std.specs.Prelude.{◌≡◌, None};
 use crate::changing::{BaseCommand, find_and_change};
 use base_file::BaseFault;
 use cmd_input::{
-    LinkLock, MAX_TEXT_FILE, is_folder, look_into, moment_of, read_file, read_standard_input,
-    serial_from,
+    LinkLock, MAX_TEXT_FILE, is_folder, named_serial, named_stamp, open_folder_reader, read_file,
+    read_standard_input,
 };
-use cmd_numbered::{Answered, find_answered, find_answered_of};
+use cmd_numbered::{Answered, find_answered, find_answered_streamed};
 use cmd_status::{Fault, FileLock, Status};
 use cmd_store::{LetterFault, MailDefaults, MailWords, PostMail};
 use cmd_words::PostMailWords;
@@ -16,7 +16,7 @@ use disk_io::{Disk, Sink};
 use disk_system::{RealDisk, Unknown};
 use echo_addr::Items;
 use echo_charset::Charset;
-use echo_mail::{MailFault, area_in, exported_id, read_mail, value_in};
+use echo_mail::{MailFault, exported_id, field_value, named_area, read_mail};
 use model_steps::Stamp;
 use station::lock_links;
 use std::alloc::{AllocError, Global};
@@ -77,8 +77,8 @@ fn mail_given<'a>(
     words: &PostMailWords<'_>,
     charset: Option<Charset>,
 ) -> Result<MailDraft, Fault<'a>> {
-    let (serial, free) = serial_from(rt, words.serial)?;
-    let stamp = moment_of(rt, words.at)?;
+    let (serial, free) = named_serial(rt, words.serial)?;
+    let stamp = named_stamp(rt, words.at)?;
     Ok(MailDraft {
         charset,
         serial,
@@ -110,8 +110,8 @@ fn message_of_id<'a>(
         return Ok(None);
     }
     if is_folder(rt, base) {
-        let mut messages = look_into(rt, base, 0, None)?;
-        return find_answered_of(rt.alloc(), id, base, &mut messages);
+        let mut messages = open_folder_reader(rt, base, 0, None)?;
+        return find_answered_streamed(rt.alloc(), id, base, &mut messages);
     }
     let hasher = RandomState::new(rt).map_err(|_| Fault::Base(BaseFault::Read))?;
     let bytes = read_file(rt, base, usize::MAX)?;
@@ -131,10 +131,10 @@ fn wanted_id(
         Err(_) => return Ok(None),
     };
     let fields = mail.fields.as_slice();
-    if given.charset.is_some() && (words.area.is_some() || area_in(fields).is_some()) {
+    if given.charset.is_some() && (words.area.is_some() || named_area(fields).is_some()) {
         return Ok(None);
     }
-    match value_in(fields, b"In-Reply-To") {
+    match field_value(fields, b"In-Reply-To") {
         Some(value) => exported_id(alloc, value),
         None => Ok(None),
     }

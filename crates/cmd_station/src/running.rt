@@ -8,7 +8,7 @@ use crate::opened::Opened;
 use crate::place::Station;
 use base_file::BaseFault;
 use base_store::{SipDigest, StoreError};
-use cmd_input::{MAX_TEXT_FILE, Messages, Progress, Tossing, look_into, read_file};
+use cmd_input::{MAX_TEXT_FILE, Messages, Progress, Tossing, open_folder_reader, read_file};
 use cmd_status::{Fault, FileLock};
 use cmd_store::{CommandError, StoreCommand};
 use disk_io::{Disk, Sink};
@@ -247,7 +247,7 @@ pub(crate) fn by_name<'a>(at: Station<'a>, fault: Fault<'a>) -> Fault<'a> {
 
 // The fault of a base folder that has a damaged message.
 fn damaged_in<'a>(rt: &HostRuntime, base: &'a str) -> Fault<'a> {
-    match look_into(rt, base, 0, None) {
+    match open_folder_reader(rt, base, 0, None) {
         Ok(_) => Fault::CannotUse(base),
         Err(fault) => fault,
     }

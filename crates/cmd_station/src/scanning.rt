@@ -4,12 +4,12 @@ ghost use Rattle.disk_io.specs.Disk.{Honestly};
 ghost use Rattle.station.specs.Opening.{AreFree};
 
 use crate::opened::Opened;
-use crate::place::{Station, find_base, locks_of};
+use crate::place::{Station, find_base, station_locks};
 use crate::running::{fault_of, file_station, folder_station};
 use crate::unplaced::report_unplaced;
 use base_store::StoreError;
 use cmd_base::{LeftFiles, ScanFiles};
-use cmd_input::{Progress, folder_path, moment_of};
+use cmd_input::{Progress, folder_path, named_stamp};
 use cmd_status::{Fault, FileLock, MessageProgress, Status};
 use cmd_store::CommandError;
 use cmd_words::{Place, ScanWords};
@@ -19,7 +19,7 @@ use disk_system::{RealDisk, Unknown};
 use model_steps::Stamp;
 use station::{BeforeCommand, LendStation, Locks, Nothing, OpenStation};
 use station_bases::FolderProbe;
-use station_scan::{Scan as Wanted, ScanError, run_scan as scan_station};
+use station_scan::{Scan, ScanError, run_scan as scan_station};
 use std::rt::Files;
 
 /// How many messages are scanned between two looks at the clock.
@@ -28,7 +28,7 @@ const SOME: usize = 1_000;
 /// A scan: its station, its stamp, and its folder. `folder` is the folder as the operator named it, and `slashed` the
 /// path before the names of its files.
 #[derive(Clone, Copy)]
-pub struct Scan<'a> {
+pub struct StationScan<'a> {
     pub at: Station<'a>,
     pub stamp: Stamp,
     pub folder: &'a str,
@@ -43,7 +43,7 @@ pub(crate) fn run_scan<W: Sink, E: Sink>(
     out: &mut W,
     errors: &mut E,
 ) -> Status {
-    let stamp = match moment_of(rt, words.at) {
+    let stamp = match named_stamp(rt, words.at) {
         Ok(stamp) => stamp,
         Err(fault) => return fault.report(errors),
     };
@@ -77,7 +77,7 @@ fn find_and_scan<'a, W: Sink, E: Sink>(
     out: &mut W,
     errors: &mut E,
 ) -> Status {
-    let mut locks = locks_of(rt, place);
+    let mut locks = station_locks(rt, place);
     let found = match find_base(rt, place, &mut locks) {
         Ok(found) => found,
         Err(fault) => return fault.report(errors),
@@ -102,7 +102,7 @@ fn scan_found<'a, L: FileLock, K: FileLock, W: Sink, E: Sink>(
         folder,
         slashed,
     } = to;
-    let scan = Scan {
+    let scan = StationScan {
         at,
         stamp,
         folder,
@@ -122,7 +122,7 @@ fn scan_found<'a, L: FileLock, K: FileLock, W: Sink, E: Sink>(
 
 // Scans a station with a base file, over these files.
 fn scan_file<'a, F: Files + Drop + 'a, L: FileLock, K: FileLock, W: Sink>(
-    scan: Scan<'a>,
+    scan: StationScan<'a>,
     progress: &'a Progress<'a>,
     files: F,
     locks: &mut Locks<L, K>,
@@ -140,7 +140,7 @@ fn scan_file<'a, F: Files + Drop + 'a, L: FileLock, K: FileLock, W: Sink>(
 
 // The same with a base folder. The folder of packets must be another one.
 fn scan_folder<'a, F: Files + Drop + 'a, L: FileLock, K: FileLock, W: Sink>(
-    scan: Scan<'a>,
+    scan: StationScan<'a>,
     progress: &'a Progress<'a>,
     files: F,
     locks: &mut Locks<L, K>,
@@ -166,7 +166,7 @@ fn scan_over<
     K: FileLock,
     W: Sink,
 >(
-    scan: Scan<'a>,
+    scan: StationScan<'a>,
     progress: &'a Progress<'a>,
     disk: D,
     locks: &mut Locks<L, K>,
@@ -192,7 +192,7 @@ fn scan_over<
 
 // Reports how a scan ended.
 fn report_scanned<E: Sink>(
-    scan: Scan<'_>,
+    scan: StationScan<'_>,
     files: &ScanFiles<'_, '_>,
     done: Result<(), ScanError<'_>>,
     errors: &mut E,
@@ -213,10 +213,10 @@ fn report_scanned<E: Sink>(
 
 // The scan in the form of station_scan.
 fn wanted<'w, 'a: 'w>(
-    scan: Scan<'a>,
+    scan: StationScan<'a>,
     watch: &'w ScanProgress<'a>,
-) -> Wanted<'w, LeftFiles<'a>, ScanProgress<'a>> {
-    Wanted {
+) -> Scan<'w, LeftFiles<'a>, ScanProgress<'a>> {
+    Scan {
         stamp: scan.stamp,
         outbound: scan.slashed.as_bytes(),
         listing: LeftFiles::new(scan.at.rt),

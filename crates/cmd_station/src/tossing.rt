@@ -2,10 +2,10 @@
 ghost use Rattle.std.specs.Prelude.{◌≡◌, None, OnOk};
 ghost use Rattle.station.specs.Opening.{AreFree};
 
-use crate::place::{Station, find_base, locks_of};
+use crate::place::{Station, find_base, station_locks};
 use crate::running::{Before, by_name, run_at_station};
-use cmd_input::{PacketStreams, PathNames, Progress, Tossing, names_of};
-use cmd_status::{Fault, FileLock, LIMITS, Status, limits_for, number_of};
+use cmd_input::{PacketStreams, PathNames, Progress, Tossing, path_names};
+use cmd_status::{Fault, FileLock, LIMITS, Status, capped_limits, parse_number};
 use cmd_store::Toss;
 use cmd_words::{Place, TossWords};
 use disk_io::Sink;
@@ -26,7 +26,7 @@ pub(crate) fn run_toss<W: Sink, E: Sink>(
         Ok(limits) => limits,
         Err(fault) => return fault.report(errors),
     };
-    let PathNames { names, stopped } = names_of(rt, &words.packets);
+    let PathNames { names, stopped } = path_names(rt, &words.packets);
     let by = Tossing {
         names: names.as_slice(),
         limits,
@@ -45,7 +45,7 @@ fn find_and_toss<'a, W: Sink, E: Sink>(
     out: &mut W,
     errors: &mut E,
 ) -> Status {
-    let mut locks = locks_of(rt, place);
+    let mut locks = station_locks(rt, place);
     let found = match find_base(rt, place, &mut locks) {
         Ok(found) => found,
         Err(fault) => return fault.report(errors),
@@ -91,9 +91,9 @@ fn toss_limits<'a>(text_limit: Option<&str>) -> Result<Limits, Fault<'a>> {
     let Some(word) = text_limit else {
         return Ok(LIMITS);
     };
-    let most = number_of(word)?;
+    let most = parse_number(word)?;
     if most > LIMITS.text as u64 {
         return Err(Fault::BadNumber);
     }
-    Ok(limits_for(most))
+    Ok(capped_limits(most))
 }

@@ -1,6 +1,6 @@
 //! The path at which the packets of a scan could not be put in place.
 
-use crate::scanning::Scan;
+use crate::scanning::StationScan;
 use cmd_base::ScanFiles;
 use cmd_status::{Fault, Status};
 use cmd_words::Place;
@@ -9,15 +9,15 @@ use disk_io::Sink;
 
 /// Reports why the packets of a scan were not put in place, and the noted path.
 pub fn report_unplaced<E: Sink>(
-    scan: Scan<'_>,
+    scan: StationScan<'_>,
     files: &ScanFiles<'_, '_>,
     cause: PlacingError,
     errors: &mut E,
 ) -> Status {
     let met = match cause {
         PlacingError::Memory => return Fault::OutOfMemory.report(errors),
-        PlacingError::Taken => files.taken_at(),
-        PlacingError::Device => files.failed_at().or(files.taken_at()),
+        PlacingError::Taken => files.taken_path(),
+        PlacingError::Device => files.failed_path().or(files.taken_path()),
     };
     match &met {
         Some(met) => {

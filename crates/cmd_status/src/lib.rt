@@ -16,10 +16,10 @@ mod status;
 
 pub use fault::Fault;
 pub use inputs::{link_files, nodelist_given};
-pub use limits::{LIMITS, limits_for};
+pub use limits::{LIMITS, capped_limits};
 pub use locked::FileLock;
-pub use options::{number_of, parse_address, serial_of, stamp_of};
+pub use options::{parse_address, parse_number, parse_serial, parse_stamp};
 pub use packet_names::{PacketName, StreamPackets};
-pub use printing::{pass_on, print_rest};
+pub use printing::{flush_piece, print_rest};
 pub use progress::MessageProgress;
 pub use status::{Status, ended};

@@ -10,7 +10,7 @@ pub const LIMITS: Limits = Limits {
 };
 
 /// With texts of at most this many bytes, if that is less.
-pub fn limits_for(most: u64) -> Limits
+pub fn capped_limits(most: u64) -> Limits
     ensures { result ≡ limits_for most }
 {
     Limits {

@@ -22,7 +22,7 @@ pub fn parse_address<'a>(word: &str) -> Result<Address, Fault<'a>>
 }
 
 /// The stamp that `YYYY-MM-DDThh:mm:ss` writes. Its parts may be out of their ranges.
-pub fn stamp_of<'a>(word: &str) -> Result<Stamp, Fault<'a>>
+pub fn parse_stamp<'a>(word: &str) -> Result<Stamp, Fault<'a>>
     ensures ok { IfOk result (λ stamp. (is_stamp_word word.now ≡ true) × (stamp ≡ options.stamp_in word.now)) }
     ensures refused { IfErr result (λ fault. (fault ≡ BadStamp) × (is_stamp_word word.now ≡ false)) }
 {
@@ -34,7 +34,7 @@ pub fn stamp_of<'a>(word: &str) -> Result<Stamp, Fault<'a>>
 }
 
 /// The number that eight hexadecimal digits of either case write.
-pub fn serial_of<'a>(word: &str) -> Result<u32, Fault<'a>>
+pub fn parse_serial<'a>(word: &str) -> Result<u32, Fault<'a>>
     ensures ok { IfOk result (λ serial. (is_serial word.now ≡ true) × (serial ≡ serial_of_word word.now)) }
     ensures refused { IfErr result (λ fault. (fault ≡ BadSerial) × (is_serial word.now ≡ false)) }
 {
@@ -49,7 +49,7 @@ pub fn serial_of<'a>(word: &str) -> Result<u32, Fault<'a>>
 }
 
 /// The number that decimal digits write, however many; a greater one is the greatest `u64`.
-pub fn number_of<'a>(word: &str) -> Result<u64, Fault<'a>>
+pub fn parse_number<'a>(word: &str) -> Result<u64, Fault<'a>>
     ensures ok { IfOk result (λ n. (is_number word.now ≡ true) × (n ≡ index_of_word word.now)) }
     ensures refused { IfErr result (λ fault. (fault ≡ BadNumber) × (is_number word.now ≡ false)) }
 {

@@ -25,7 +25,7 @@ fn send_lines<'a, W: Sink>(lines: &mut Vec<u8>, out: &mut W) -> Result<(), Fault
 }
 
 /// Writes the lines, if they are a piece or more. Lines that could not be written are dropped.
-pub fn pass_on<'a, W: Sink>(lines: &mut Vec<u8>, out: &mut W) -> Result<(), Fault<'a>>
+pub fn flush_piece<'a, W: Sink>(lines: &mut Vec<u8>, out: &mut W) -> Result<(), Fault<'a>>
     ensures bytes { OnOk result (PassesOn lines.old.items lines.new.items (W.contents out.old) (W.contents out.new)) }
     ensures begun { OnErr result (WritesFront lines.old.items (W.contents out.old) (W.contents out.new)) }
     ensures dropped { OnErr result (lines.new.items ≡ []) }

@@ -29,7 +29,7 @@ pub struct ReplyFields {
 }
 
 /// The words that the message gives.
-pub fn found_in(alloc: Global, message: &Filed) -> Result<ReplyFields, AllocError>
+pub fn reply_fields(alloc: Global, message: &Filed) -> Result<ReplyFields, AllocError>
     ensures { IfOk result (IsFound message.now) }
 {
     let echo = &message.echo;

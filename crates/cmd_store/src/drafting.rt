@@ -19,7 +19,7 @@ pub struct NewMessage<'a> {
 }
 
 /// The draft of the words and the body.
-pub fn draft_of(alloc: Global, words: NewMessage<'_>, body: &[u8]) -> Result<Draft, AllocError>
+pub fn make_draft(alloc: Global, words: NewMessage<'_>, body: &[u8]) -> Result<Draft, AllocError>
     ensures { IfOk result (λ draft. draft ≡ draft_given words.entry body.now) }
 {
     Ok(Draft {

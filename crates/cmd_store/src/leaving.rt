@@ -10,7 +10,7 @@ use cmd_status::print_rest;
 use disk_io::Sink;
 
 /// Commits what the store holds.
-pub fn commit_on<'a, T: Store>(store: &mut T) -> Result<(), CommandError<'a>>
+pub fn commit_store<'a, T: Store>(store: &mut T) -> Result<(), CommandError<'a>>
     requires { (T.state store.old).is_ready }
     ensures committed { OnOk result (Commits (T.state store.old) (T.state store.new)) }
     ensures either { MayCommit (T.state store.old) (T.state store.new) }
@@ -36,5 +36,5 @@ pub(crate) fn leave<'a, T: Store, W: Sink>(
     ensures cause { HasStoreCause (T.state store.old) (T.state store.new) (T.failures store.old) (T.failures store.new) (store_answer result) }
 {
     print_rest(lines, out)?;
-    commit_on(store)
+    commit_store(store)
 }

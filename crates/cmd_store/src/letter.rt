@@ -8,7 +8,7 @@ use crate::fault::LetterFault;
 use crate::writing::{bytes_in, name_in, words_in};
 use echo_addr::Items;
 use echo_charset::Charset;
-use echo_mail::{Field, Mail, area_in, body_text, exported_id, read_mail, value_in};
+use echo_mail::{Field, Mail, body_text, exported_id, field_value, named_area, read_mail};
 use model_steps::is_reply_id;
 use std::alloc::{AllocError, Global};
 
@@ -34,7 +34,7 @@ pub struct Letter {
 }
 
 /// What a mail says, in the bytes of a charset, and the words for what it lacks.
-pub fn letter_in(
+pub fn read_letter(
     alloc: Global,
     bytes: &[u8],
     spare: MailDefaults<'_>,
@@ -58,9 +58,9 @@ fn letter_of(
     let tag = tag_in(alloc, mail, spare.area)?;
     let to = addressee_in(fields);
     let to_name = name_in(alloc, charset, to, spare.to, LetterFault::NoTo)?;
-    let from = value_in(fields, b"From");
+    let from = field_value(fields, b"From");
     let from_name = name_in(alloc, charset, from, spare.from, LetterFault::NoFrom)?;
-    let words = value_in(fields, b"Subject");
+    let words = field_value(fields, b"Subject");
     let subject = words_in(alloc, charset, words, spare.subject, LetterFault::NoSubject)?;
     let said = body_in(alloc, mail, charset)?;
     let reply = reply_in(alloc, mail, spare.reply)?;
@@ -88,16 +88,16 @@ fn are_wide(to: &Items<u8>, from: &Items<u8>, subject: &Items<u8>, said: &Items<
 fn addressee_in(fields: &[Field]) -> Option<&[u8]>
     ensures { option_copied result ≡ option_or (value_in fields.now (codes "To")) (value_in fields.now (codes "X-Comment-To")) }
 {
-    match value_in(fields, b"To") {
+    match field_value(fields, b"To") {
         Some(to) => Some(to),
-        None => value_in(fields, b"X-Comment-To"),
+        None => field_value(fields, b"X-Comment-To"),
     }
 }
 
 fn tag_in(alloc: Global, mail: &Mail, word: Option<&str>) -> Result<Items<u8>, LetterFault>
     ensures { IsArea (option_or (area_in mail.now.fields) (option_copied word.entry)) result }
 {
-    match (area_in(mail.fields.as_slice()), word) {
+    match (named_area(mail.fields.as_slice()), word) {
         (Some(tag), _) => Ok(Items::new(Vec::from_slice(alloc, tag)?)),
         (None, Some(tag)) => Ok(Items::new(Vec::from_slice(alloc, tag.as_bytes())?)),
         (None, None) => Err(LetterFault::NoArea),
@@ -114,7 +114,7 @@ fn body_in(alloc: Global, mail: &Mail, charset: Charset) -> Result<Items<u8>, Le
 fn reply_in(alloc: Global, mail: &Mail, word: Option<&str>) -> Result<Items<u8>, AllocError>
     ensures { IfOk result (λ id. id ≡ unwrap_or (option_or (answered_id (field mail.now (codes "In-Reply-To"))) (option_copied word.entry)) []) }
 {
-    match answered_id(alloc, value_in(mail.fields.as_slice(), b"In-Reply-To"))? {
+    match answered_id(alloc, field_value(mail.fields.as_slice(), b"In-Reply-To"))? {
         Some(id) => Ok(id),
         None => Ok(Items::new(Vec::from_slice(alloc, word_bytes(word))?)),
     }

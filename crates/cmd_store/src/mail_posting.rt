@@ -3,7 +3,7 @@ ghost use Rattle.echo_toss.specs.PacketsIn.{state_in};
 ghost use Rattle.cmd_store.specs.{Bounded.AddsMailed, MailPosted.Mails, MailPosted.MailsOn, MailPosted.ReadsMail};
 
 use crate::fault::LetterFault;
-use crate::letter::{Letter, letter_in};
+use crate::letter::{Letter, read_letter};
 use crate::mailed::{MailWords, words_of};
 use crate::{CommandError, Post, StoreCommand};
 use base_store::PurgedStore;
@@ -27,7 +27,7 @@ impl<'w> PostMail<'w> {
     ) -> Result<PostMail<'w>, LetterFault>
         ensures { ReadsMail asked.entry mail.now result }
     {
-        let letter = letter_in(alloc, mail, asked.spare, asked.charset)?;
+        let letter = read_letter(alloc, mail, asked.spare, asked.charset)?;
         Ok(PostMail { letter, asked })
     }
 }

@@ -5,7 +5,7 @@ use cmd_status::Fault;
 use echo_toss::TossCause;
 
 /// Why a packet was not tossed whole, as it is reported.
-pub fn fault_of<'a>(cause: TossCause) -> Fault<'a>
+pub fn toss_fault<'a>(cause: TossCause) -> Fault<'a>
     ensures { result ≡ fault_of cause }
 {
     match cause {

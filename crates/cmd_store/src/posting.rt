@@ -9,7 +9,7 @@ ghost use Rattle.cmd_store.specs.{Answered.CommitsNoneWhereMet, Answered.HasComm
 
 use crate::command::StoreCommand;
 use crate::command_error::CommandError;
-use crate::drafting::{NewMessage, draft_of};
+use crate::drafting::{NewMessage, make_draft};
 use crate::leaving::leave;
 use crate::lines::push_posted;
 use crate::serials::file_as;
@@ -71,7 +71,7 @@ pub(crate) fn post_as<'a, T: Store, W: Sink>(
     ensures many { IsErrOf (store_answer result) TooMany → IsStoppedFull T.state (AddsPosted links.now words.entry body.now) (T.state store.old) (T.state store.new) }
     ensures cause { HasStoreCause (T.state store.old) (T.state store.new) (T.failures store.old) (T.failures store.new) (store_answer result) }
 {
-    let draft = draft_of(alloc, words, body)?;
+    let draft = make_draft(alloc, words, body)?;
     let serial = file_as(alloc, free, words, links, store, &draft)?;
     leave_posted(alloc, words.tag, serial, links, store, out)
 }

@@ -6,7 +6,7 @@ ghost use Rattle.base_store.specs.Store.{HasStoreCause, LooksOn};
 ghost use Rattle.echo_toss.specs.PacketsIn.{state_in};
 ghost use Rattle.cmd_store.specs.{Answered.CommitsNoneWhereMet, Answered.HasCommitted, Answered.MayMake, Bounded.AddsReply, Bounded.IsStoppedFull, Replied.FindsOn, Replied.Replies, Replied.RepliesOn, Stops.store_answer};
 
-use crate::answering::{Answer, ReplyFields, found_in};
+use crate::answering::{Answer, ReplyFields, reply_fields};
 use crate::command::StoreCommand;
 use crate::command_error::CommandError;
 use crate::drafting::NewMessage;
@@ -98,7 +98,7 @@ fn found_on<'a, T: Store>(
     }
     store.fetch(index as usize)?;
     match store.at_hand() {
-        Some(message) => Ok(found_in(alloc, message)?),
+        Some(message) => Ok(reply_fields(alloc, message)?),
         None => Err(CommandError::Store(StoreError::Damaged)),
     }
 }

@@ -21,9 +21,9 @@ use echo_toss::{
 };
 use std::alloc::{AllocError, Global};
 
-/// Tosses as `toss_packet_in` does, and appends a line for each message not filed. It keeps room for the packet's own
+/// Tosses as `toss_packet` does, and appends a line for each message not filed. It keeps room for the packet's own
 /// line. A message without memory for its line is not counted. Nothing is committed.
-pub fn toss_noting_in<T: Store, R: Source>(
+pub fn toss_listing_unfiled<T: Store, R: Source>(
     alloc: Global,
     links: &LinkFile,
     store: &mut T,

@@ -10,14 +10,14 @@ use crate::coming::PacketFiles;
 use crate::command::StoreCommand;
 use crate::command_error::CommandError;
 use crate::lines::{MOST_TALLY, push_tally};
-use crate::packet_fault::fault_of;
-use crate::storing::toss_noting_in;
+use crate::packet_fault::toss_fault;
+use crate::storing::toss_listing_unfiled;
 use base_store::{PurgedStore, Store, StoreError};
 use cmd_status::{Fault, print_rest};
 use disk_io::{Sink, Source};
 use echo_links::LinkFile;
 use echo_packet::Limits;
-use echo_toss::{StoppedToss, Tally, TossStepError, toss_packet_in};
+use echo_toss::{StoppedToss, Tally, TossStepError, toss_packet};
 use std::alloc::Global;
 use std::marker::PhantomData;
 
@@ -175,10 +175,10 @@ fn toss_next<'a, T: Store, R: Source>(
         return Ok(Some(Fault::OutOfMemory));
     }
     if noting {
-        let answer = toss_noting_in(alloc, links, store, reader, limits, lines);
+        let answer = toss_listing_unfiled(alloc, links, store, reader, limits, lines);
         push_answer(lines, answer)
     } else {
-        let answer = toss_packet_in(alloc, links, store, reader, limits);
+        let answer = toss_packet(alloc, links, store, reader, limits);
         push_answer(lines, answer)
     }
 }
@@ -198,7 +198,7 @@ fn push_answer<'a>(
         Err(stopped) => match stopped.stop {
             TossStepError::Packet(cause) => {
                 push_tally(lines, stopped.tally);
-                Ok(Some(fault_of(cause)))
+                Ok(Some(toss_fault(cause)))
             }
             TossStepError::Store(error) => Err(error),
         },

@@ -60,7 +60,7 @@ pub(crate) fn bytes_in(
 ) -> Result<Items<u8>, LetterFault>
     ensures { IsSaid charset text.now result }
 {
-    match charset.bytes_of(alloc, text)? {
+    match charset.encode_text(alloc, text)? {
         Some(bytes) => Ok(Items::new(bytes)),
         None => Err(LetterFault::NotInCharset),
     }

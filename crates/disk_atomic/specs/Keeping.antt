@@ -1,9 +1,9 @@
 -- A new file that keeps a part of another.
 use Rattle.std.specs.Prelude.{◌≤◌, ◌++◌, List, ℕ, IsSome, drop, length, take}
 use Rattle.disk_io.specs.Disk.{DiskState, Honestly, bytes_in}
-use Rattle.disk_atomic.specs.{Changes.HasOnDisk, declared.keeping.Kept.Kept}
+use Rattle.disk_atomic.specs.{Changes.HasOnDisk, declared.keeping.KeptRange.KeptRange}
 
-abbrev pub kept_bytes : List ℕ → Kept → List ℕ
+abbrev pub kept_bytes : List ℕ → KeptRange → List ℕ
 kept_bytes old kept = kept.head.now ++ (drop kept.from (take kept.to old) ++ kept.tail.now)
 
 -- The file exists, and has the bytes from one place to another.

@@ -4,7 +4,7 @@ ghost use Rattle.disk_atomic.specs.Outgoing.{AreApart, ArePlaced, IsAtStaging, I
 ghost use Rattle.disk_atomic.specs.Changes.{ChangesOnly};
 
 use crate::outgoing::Outgoing;
-use disk_io::{Disk, DiskError, sync_folder_of};
+use disk_io::{Disk, DiskError, sync_parent_folder};
 
 fn drop_one<D: Disk>(disk: &mut D, path: &[u8]) -> Result<(), DiskError>
     requires { (D.state disk.old).is_named path.now }
@@ -46,7 +46,7 @@ pub fn drop_staging<D: Disk>(
     ensures changes { ChangesOnly (IsAtStaging packets.now trial.now) (D.state disk.old) (D.state disk.new) }
     ensures cause { HasCause (D.failures disk.old) (D.failures disk.new) result }
 {
-    sync_folder_of(disk, folder)?;
+    sync_parent_folder(disk, folder)?;
     drop_one(disk, trial)?;
     drop_each(disk, packets)
 }

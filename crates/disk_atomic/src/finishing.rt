@@ -5,7 +5,7 @@ ghost use Rattle.disk_atomic.specs.Finishing.{AreLeftIn, AreNamed, Finishes, Fin
 ghost use Rattle.disk_atomic.specs.Changes.{ChangesOnly};
 
 use crate::naming::name_packet;
-use disk_io::{Disk, DiskError, sync_folder_of};
+use disk_io::{Disk, DiskError, sync_parent_folder};
 use std::alloc::Global;
 
 /// A packet in a staging file, and how many messages were scanned before it.
@@ -62,11 +62,11 @@ pub fn finish_stopped<D: Disk>(
     ensures changes { ChangesOnly (IsOfLeft found.now) (D.state disk.old) (D.state disk.new) }
     ensures cause { HasCause (D.failures disk.old) (D.failures disk.new) result }
 {
-    sync_folder_of(disk, folder)?;
+    sync_parent_folder(disk, folder)?;
     let mut all = true;
     'found: for left in found {
         all &= finish_one(alloc, disk, folder, left, cursor)?;
     }
-    sync_folder_of(disk, folder)?;
+    sync_parent_folder(disk, folder)?;
     Ok(all)
 }

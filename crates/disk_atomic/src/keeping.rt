@@ -4,7 +4,7 @@ ghost use Rattle.disk_io.specs.{Disk.Honestly, Disk.IsIn, Disk.bytes_in, Runs.Ha
 ghost use Rattle.disk_atomic.specs.{Changes.ChangesOnly, Changes.HasOnDisk, Changes.IsGrowing, Keeping.HasAllOnDisk, Keeping.HasPart, Keeping.kept_bytes, Replacing.Replaces};
 
 use crate::filling::append;
-use disk_io::{Disk, DiskError, read_part, sync_folder_of};
+use disk_io::{Disk, DiskError, read_part, sync_parent_folder};
 use std::alloc::Global;
 
 /// How many bytes are copied at once.
@@ -12,7 +12,7 @@ const PIECE: usize = 65_536;
 
 /// What stays of a file: its bytes from one place up to another, between this head and this tail.
 #[derive(Clone, Copy, Debug)]
-pub struct Kept<'a> {
+pub struct KeptRange<'a> {
     pub head: &'a [u8],
     pub from: usize,
     pub to: usize,
@@ -73,7 +73,7 @@ fn write_kept<D: Disk>(
     disk: &mut D,
     source: &[u8],
     path: &[u8],
-    kept: Kept<'_>,
+    kept: KeptRange<'_>,
 ) -> Result<(), DiskError>
     requires growing { IsGrowing (D.state disk.old) path.now 0 }
     requires other { path.now ≢ source.now }
@@ -95,7 +95,7 @@ fn fill_kept<D: Disk>(
     disk: &mut D,
     source: &[u8],
     path: &[u8],
-    kept: Kept<'_>,
+    kept: KeptRange<'_>,
 ) -> Result<(), DiskError>
     requires growing { IsGrowing (D.state disk.old) path.now 0 }
     requires other { path.now ≢ source.now }
@@ -116,7 +116,7 @@ fn stage_kept<D: Disk>(
     folder: &[u8],
     path: &[u8],
     staging: &[u8],
-    kept: Kept<'_>,
+    kept: KeptRange<'_>,
 ) -> Result<(), DiskError>
     requires staging_in { IsIn folder.now staging.now }
     requires other { staging.now ≢ path.now }
@@ -127,9 +127,9 @@ fn stage_kept<D: Disk>(
     ensures changes { ChangesOnly (λ m. m ≡ staging.now) (D.state disk.old) (D.state disk.new) }
     ensures cause { HasCause (D.failures disk.old) (D.failures disk.new) result }
 {
-    sync_folder_of(disk, folder)?;
+    sync_parent_folder(disk, folder)?;
     disk.create(staging)?;
-    sync_folder_of(disk, folder)?;
+    sync_parent_folder(disk, folder)?;
     fill_kept(alloc, disk, path, staging, kept)
 }
 
@@ -141,7 +141,7 @@ pub fn replace_around<D: Disk>(
     folder: &[u8],
     path: &[u8],
     staging: &[u8],
-    kept: Kept<'_>,
+    kept: KeptRange<'_>,
 ) -> Result<(), DiskError>
     requires path_in { IsIn folder.now path.now }
     requires staging_in { IsIn folder.now staging.now }
@@ -157,5 +157,5 @@ pub fn replace_around<D: Disk>(
 {
     stage_kept(alloc, disk, folder, path, staging, kept)?;
     disk.rename(staging, path)?;
-    sync_folder_of(disk, folder)
+    sync_parent_folder(disk, folder)
 }

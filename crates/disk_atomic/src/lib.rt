@@ -20,7 +20,7 @@ mod trying;
 pub use appending::{Pieces, append_each, append_piece, sync_packets};
 pub use dropping::drop_staging;
 pub use finishing::{Left, finish_stopped};
-pub use keeping::{Kept, replace_around};
+pub use keeping::{KeptRange, replace_around};
 pub use listing::{ListStaged, StagedPacket};
 pub use naming::{name_packet, name_packets};
 pub use outgoing::Outgoing;

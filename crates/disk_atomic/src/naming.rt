@@ -6,7 +6,7 @@ ghost use Rattle.disk_atomic.specs.Outgoing.{ArePlaced, IsFree, IsOfOne, IsStage
 ghost use Rattle.disk_atomic.specs.Changes.{ChangesOnly};
 
 use crate::outgoing::Outgoing;
-use disk_io::{Disk, DiskError, read_file, sync_folder_of};
+use disk_io::{Disk, DiskError, read_file, sync_parent_folder};
 use std::alloc::Global;
 
 fn are_same<D: Disk>(
@@ -105,7 +105,7 @@ pub fn name_packet<D: Disk>(
     if !given {
         return Ok(false);
     }
-    sync_folder_of(disk, folder)?;
+    sync_parent_folder(disk, folder)?;
     disk.remove(staging)?;
     Ok(true)
 }
@@ -133,6 +133,6 @@ pub fn name_packets<D: Disk>(
     'packets: for packet in packets {
         all &= name_packet(alloc, disk, folder, packet.staging, packet.path)?;
     }
-    sync_folder_of::<D>(disk, folder)?;
+    sync_parent_folder::<D>(disk, folder)?;
     Ok(all)
 }

@@ -3,7 +3,7 @@ ghost use Rattle.disk_io.specs.{Disk.IsIn, Runs.HasCause, Runs.LeavesOnly, Runs.
 ghost use Rattle.disk_atomic.specs.{Changes.ChangesOnly, Changes.HasOnDisk, Replacing.Replaces};
 
 use crate::staging::stage_file;
-use disk_io::{Disk, DiskError, sync_folder_of};
+use disk_io::{Disk, DiskError, sync_parent_folder};
 
 /// Replaces the bytes of a file, or makes it. They are written at a staging path first. At `Ok` they are synced.
 pub fn replace_file<D: Disk>(
@@ -26,5 +26,5 @@ pub fn replace_file<D: Disk>(
 {
     stage_file(disk, folder, staging, bytes)?;
     disk.rename(staging, path)?;
-    sync_folder_of(disk, folder)
+    sync_parent_folder(disk, folder)
 }

@@ -4,7 +4,7 @@ ghost use Rattle.disk_atomic.specs.Outgoing.{AreApart, ArePlaced, IsStagingOne, 
 ghost use Rattle.disk_atomic.specs.Changes.{ChangesOnly};
 
 use crate::outgoing::Outgoing;
-use disk_io::{Disk, DiskError, sync_folder_of};
+use disk_io::{Disk, DiskError, sync_parent_folder};
 
 fn are_free<D: Disk>(disk: &mut D, packets: &[Outgoing<'_>]) -> Result<bool, DiskError>
     ensures free { Honestly (D.state disk.new) (IfOk result (λ free. free ≡ true → All (IsFree (D.state disk.old)) packets.now)) }
@@ -48,11 +48,11 @@ pub fn make_packets<D: Disk>(
     ensures changes { ChangesOnly (IsStagingOne packets.now) (D.state disk.old) (D.state disk.new) }
     ensures cause { HasCause (D.failures disk.old) (D.failures disk.new) result }
 {
-    sync_folder_of(disk, folder)?;
+    sync_parent_folder(disk, folder)?;
     if !are_free(disk, packets)? {
         return Ok(false);
     }
     make_files(disk, packets)?;
-    sync_folder_of(disk, folder)?;
+    sync_parent_folder(disk, folder)?;
     Ok(true)
 }

@@ -3,7 +3,7 @@ ghost use Rattle.std.specs.Prelude.{◌≡◌, ℕ, List, [], Some, OnOk};
 ghost use Rattle.disk_io.specs.{Fixed.AreBytes, Disk.IsIn, Runs.HasCause, Runs.KeepsNamed};
 ghost use Rattle.disk_atomic.specs.Changes.{ChangesOnly, HasOnDisk};
 
-use disk_io::{Disk, DiskError, sync_folder_of};
+use disk_io::{Disk, DiskError, sync_parent_folder};
 
 /// Writes the bytes of a file that was just made, at a synced path. At `Ok` the bytes are synced too.
 pub fn fill_file<D: Disk>(disk: &mut D, path: &[u8], bytes: &[u8]) -> Result<(), DiskError>
@@ -33,8 +33,8 @@ pub fn stage_file<D: Disk>(
     ensures changes { ChangesOnly (λ m. m ≡ path.now) (D.state disk.old) (D.state disk.new) }
     ensures cause { HasCause (D.failures disk.old) (D.failures disk.new) result }
 {
-    sync_folder_of(disk, folder)?;
+    sync_parent_folder(disk, folder)?;
     disk.create(path)?;
-    sync_folder_of(disk, folder)?;
+    sync_parent_folder(disk, folder)?;
     fill_file(disk, path, bytes)
 }

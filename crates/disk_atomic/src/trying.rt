@@ -4,7 +4,7 @@ ghost use Rattle.disk_io.specs.{Disk.Honestly, Disk.IsIn, Runs.HasCause};
 ghost use Rattle.disk_atomic.specs.{Changes.ChangesOnly, Naming.CanLink, Trying.Tries, Trying.WasTried};
 
 use crate::naming::link_path;
-use disk_io::{Disk, DiskError, sync_folder_of};
+use disk_io::{Disk, DiskError, sync_parent_folder};
 
 fn clear_path<D: Disk>(disk: &mut D, folder: &[u8], path: &[u8]) -> Result<(), DiskError>
     requires inside { IsIn folder.now path.now }
@@ -18,7 +18,7 @@ fn clear_path<D: Disk>(disk: &mut D, folder: &[u8], path: &[u8]) -> Result<(), D
         return Ok(());
     }
     disk.remove(path)?;
-    sync_folder_of(disk, folder)
+    sync_parent_folder(disk, folder)
 }
 
 /// Gives a file of the folder this second path, syncs the folder, and removes the path again. A file that a stopped
@@ -41,7 +41,7 @@ pub fn try_link<D: Disk>(
     if !link_path(disk, from, trial)? {
         return Ok(false);
     }
-    sync_folder_of(disk, folder)?;
+    sync_parent_folder(disk, folder)?;
     disk.remove(trial)?;
     Ok(true)
 }

@@ -5,7 +5,7 @@ use crate::disk::Disk;
 use crate::disk_error::DiskError;
 
 /// The folder of a path: all of it up to its last slash.
-pub fn folder_of(path: &[u8]) -> &[u8]
+pub fn parent_folder(path: &[u8]) -> &[u8]
     ensures is_folder { IsFolder result.now }
     ensures inside { IsIn result.now path.now }
 {
@@ -17,11 +17,11 @@ pub fn folder_of(path: &[u8]) -> &[u8]
 }
 
 /// Syncs the folder of a path. Each path in it then leads on the disk to its present file, or to none.
-pub fn sync_folder_of<D: Disk>(disk: &mut D, path: &[u8]) -> Result<(), DiskError>
+pub fn sync_parent_folder<D: Disk>(disk: &mut D, path: &[u8]) -> Result<(), DiskError>
     ensures durable { OnOk result ((m : List ℕ) → IsIn path.now m → (D.state disk.new).is_named m) }
     ensures gone { OnOk result ((m : List ℕ) → IsIn path.now m → (D.state disk.new).seen m ≡ None → (D.state disk.new).is_flushed m) }
     ensures quiet { ChangesNothing (D.state disk.old) (D.state disk.new) }
     ensures cause { HasCause (D.failures disk.old) (D.failures disk.new) result }
 {
-    disk.sync_folder(folder_of(path))
+    disk.sync_folder(parent_folder(path))
 }

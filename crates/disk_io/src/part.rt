@@ -65,12 +65,12 @@ pub fn read_part<D: Disk>(
     ensures cause { HasCause (D.failures disk.old) (D.failures disk.new) result }
 {
     let mut part = Vec::new(alloc);
-    read_part_into(disk, path, from, to, &mut part)?;
+    fill_with_part(disk, path, from, to, &mut part)?;
     Ok(part)
 }
 
 /// Makes these bytes the content of a vector. After a fault it may hold anything.
-pub fn read_part_into<D: Disk>(
+pub fn fill_with_part<D: Disk>(
     disk: &mut D,
     path: &[u8],
     from: usize,

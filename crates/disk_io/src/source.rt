@@ -106,7 +106,7 @@ pub fn fill<S: Source>(source: &mut S, buf: &mut [u8]) -> Result<usize, Failure>
 }
 
 /// Reads into `buf` from `at` on until it is full or nothing is left, and answers how many bytes came.
-pub fn fill_from<S: Source>(source: &mut S, buf: &mut [u8], at: usize) -> Result<usize, Failure>
+pub fn fill_buffer<S: Source>(source: &mut S, buf: &mut [u8], at: usize) -> Result<usize, Failure>
     requires { at ≤ length buf.old }
     ensures front { take at buf.new ≡ take at buf.old }
     ensures within { IfOk result (λ count. at + count ≤ length buf.new) }

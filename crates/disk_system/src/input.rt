@@ -2,7 +2,7 @@ ghost use Rattle.std.specs.Prelude.{◌≡◌, ◌≢◌, ◌≤◌, ◌<◌, �
 ghost use Rattle.disk_io.specs.Device.{Failed};
 ghost use Rattle.disk_system.specs.{declared.input.InputFault.TheVariants.Device, declared.input.InputFault.TheVariants.Memory, declared.input.InputFault.TheVariants.TooLarge, Input.ReadsOn};
 
-use disk_io::{Failure, Source, fill_from};
+use disk_io::{Failure, Source, fill_buffer};
 use std::alloc::{AllocError, Global};
 
 /// Why an input was not read.
@@ -50,7 +50,7 @@ fn read_piece<R: Source>(reader: &mut R, whole: &mut Vec<u8>) -> Result<usize, I
 {
     let start = whole.len();
     make_room(whole)?;
-    let came = fill_from(reader, whole.as_mut_slice(), start)?;
+    let came = fill_buffer(reader, whole.as_mut_slice(), start)?;
     whole.truncate(start + came);
     Ok(came)
 }

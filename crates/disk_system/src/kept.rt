@@ -11,7 +11,7 @@ pub(crate) struct Placed<F: Drop> {
 }
 
 #[derive(Drop)]
-struct Kept<F: Drop> {
+struct KeptFile<F: Drop> {
     path: [u8; LONGEST],
     len: usize,
     placed: Placed<F>,
@@ -20,13 +20,13 @@ struct Kept<F: Drop> {
 /// The two files that were read last, and the two that were written last.
 #[derive(Drop)]
 pub(crate) struct KeptFiles<F: Drop> {
-    read: Option<Kept<F>>,
-    read_before: Option<Kept<F>>,
-    written: Option<Kept<F>>,
-    written_before: Option<Kept<F>>,
+    read: Option<KeptFile<F>>,
+    read_before: Option<KeptFile<F>>,
+    written: Option<KeptFile<F>>,
+    written_before: Option<KeptFile<F>>,
 }
 
-fn take<F: Drop>(kept: &mut Option<Kept<F>>, path: &[u8]) -> Option<Placed<F>> {
+fn take<F: Drop>(kept: &mut Option<KeptFile<F>>, path: &[u8]) -> Option<Placed<F>> {
     let found = kept.take()?;
     if found.path.get(..found.len) == Some(path) {
         return Some(found.placed);
@@ -35,13 +35,13 @@ fn take<F: Drop>(kept: &mut Option<Kept<F>>, path: &[u8]) -> Option<Placed<F>> {
     None
 }
 
-fn with_path<F: Drop>(path: &[u8], placed: Placed<F>) -> Option<Kept<F>> {
+fn with_path<F: Drop>(path: &[u8], placed: Placed<F>) -> Option<KeptFile<F>> {
     if path.len() > LONGEST {
         return None;
     }
     let mut kept = [0u8; LONGEST];
     kept[..path.len()].copy_from_slice(path);
-    Some(Kept {
+    Some(KeptFile {
         path: kept,
         len: path.len(),
         placed,

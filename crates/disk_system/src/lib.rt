@@ -19,11 +19,11 @@ pub use owned::Owned;
 pub use reading::{open_regular, read_file};
 pub use real_disk::RealDisk;
 pub use staging::{
-    Access, BY_UMASK, OWNER_ALONE, access_of, check_left, give_access, make_new, remove_left,
+    Access, BY_UMASK, OWNER_ALONE, check_left, give_access, make_new, remove_left, replaced_access,
 };
 pub use start::{NoFiles, Start, Unknown};
 pub use trace::{Call, Trace};
 pub use writing::{
     NewFile, OutputFault, StagedFile, begin_file, create_file, drop_file, flush_folder, flush_path,
-    folder_of, name_file, target_of,
+    name_file, parent_path, write_target,
 };

@@ -1,8 +1,8 @@
-//! The temporary file: its name, and how it is made.
+//! The staging file: its name, and how it is made.
 
 use crate::owned::Owned;
 use crate::writing::OutputFault;
-use disk_io::{Watched, fill_from};
+use disk_io::{Watched, fill_buffer};
 use std::alloc::{AllocError, Global};
 use std::fs::{OpenFile, OpenOptions, Permissions};
 use std::io::ErrorKind;
@@ -10,7 +10,7 @@ use std::os::unix::fs::{MetadataExt, OpenOptionsExt};
 use std::rt::Files;
 use std::{fs, io};
 
-/// The mode of a file that only its owner may read and write. A temporary file has it until it gets that of the file that
+/// The mode of a file that only its owner may read and write. A staging file has it until it gets that of the file that
 /// it replaces.
 pub const OWNER_ALONE: u32 = 0o600;
 
@@ -29,7 +29,7 @@ pub(crate) fn staging_name(alloc: Global, path: &str, own: &str) -> Result<Strin
     format!(in alloc; "{path}.~{own}~.new")
 }
 
-/// Removes the temporary file of a stopped run. Any other file with the name stays, and is a fault.
+/// Removes the staging file of a stopped run. Any other file with the name stays, and is a fault.
 pub(crate) fn make_staging<R: Files>(
     alloc: Global,
     files: &R,
@@ -78,7 +78,7 @@ pub fn check_left<R: Files>(
     }
     let mut first = vec![in alloc; 0u8; start.len()]?;
     let mut device = Watched::new(fs::open(files, path)?);
-    let came = fill_from(&mut device, first.as_mut_slice(), 0)?;
+    let came = fill_buffer(&mut device, first.as_mut_slice(), 0)?;
     first.truncate(came);
     if start.starts_with(first.as_slice()) {
         Ok(())
@@ -87,7 +87,7 @@ pub fn check_left<R: Files>(
     }
 }
 
-/// Removes the temporary file of a stopped run, if it is a regular file of this user. One that cannot be removed stays.
+/// Removes the staging file of a stopped run, if it is a regular file of this user. One that cannot be removed stays.
 pub fn remove_left<R: Files>(files: &R, path: &str) {
     if let Ok(found) = fs::symlink_metadata(files, path) {
         if found.is_file() && is_of_this_user(files, found.uid()) {
@@ -104,7 +104,7 @@ fn is_of_this_user<R: Files>(files: &R, owner: u32) -> bool {
 }
 
 /// The access of the file to be replaced, if there is one. It has to be a regular file that may be written.
-pub fn access_of<R: Files>(files: &R, path: &str) -> Result<Option<Access>, OutputFault> {
+pub fn replaced_access<R: Files>(files: &R, path: &str) -> Result<Option<Access>, OutputFault> {
     match fs::metadata(files, path) {
         Ok(found) if found.is_file() && !found.permissions().readonly() => {
             OpenOptions::new().write(true).open(files, path)?;

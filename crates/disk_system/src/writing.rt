@@ -1,5 +1,5 @@
 //! Writes whole files. The bytes go to a staging file (`staging`) and are flushed to the disk. Then the file
-//! gets its name at once. If a step fails, the temporary file is removed, and the old file is unchanged.
+//! gets its name at once. If a step fails, the staging file is removed, and the old file is unchanged.
 ghost use Rattle.std.specs.{Prelude.◌≡◌, Prelude.take, Prelude.IfErr, Prelude.OnOk, Io.KnownBytes.Appends};
 ghost use Rattle.disk_io.specs.Device.{Failed};
 ghost use Rattle.disk_system.specs.declared.writing.OutputFault.TheVariants.{Device, Memory};
@@ -21,7 +21,7 @@ pub enum OutputFault {
     Memory,
 }
 
-/// A file to be written: its path, its bytes, how many first bytes show its kind, and its mode. The temporary name has
+/// A file to be written: its path, its bytes, how many first bytes show its kind, and its mode. The staging name has
 /// the address of the system that writes it, such as `1.10.2`, so that no other system writes that file.
 #[derive(Clone, Copy)]
 pub struct NewFile<'a> {
@@ -139,8 +139,8 @@ pub fn flush_folder<R: Files>(files: &R, folder: &str) -> Result<(), OutputFault
 /// Flushes the folder of the file with this path, or of the one that a symbolic link leads to. Then a power cut
 /// leaves the present file at the path.
 pub fn flush_path<R: Files>(alloc: Global, files: &R, path: &str) -> Result<(), OutputFault> {
-    let target = target_of(alloc, files, path)?;
-    flush_folder(files, folder_of(target.as_str()))
+    let target = write_target(alloc, files, path)?;
+    flush_folder(files, parent_path(target.as_str()))
 }
 
 fn start_of(bytes: &[u8], known_by: usize) -> &[u8]
@@ -150,7 +150,7 @@ fn start_of(bytes: &[u8], known_by: usize) -> &[u8]
 }
 
 /// The folder of the file with this path.
-pub fn folder_of(path: &str) -> &str {
+pub fn parent_path(path: &str) -> &str {
     match path.rsplit_once('/') {
         Some(("", _)) => "/",
         Some((folder, _)) => folder,
@@ -187,7 +187,7 @@ fn tidied<R: Files>(
 }
 
 /// The path of the file that is to be written: that which a symbolic link leads to, else the path.
-pub fn target_of<R: Files>(alloc: Global, files: &R, path: &str) -> Result<String, OutputFault> {
+pub fn write_target<R: Files>(alloc: Global, files: &R, path: &str) -> Result<String, OutputFault> {
     match fs::symlink_metadata(files, path) {
         Ok(found) if found.is_symlink() => Ok(files.canonicalize(alloc, path)?.into_string()),
         Ok(_) => Ok(String::from_str(alloc, path)?),

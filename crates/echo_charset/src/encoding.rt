@@ -7,7 +7,7 @@ use std::alloc::{AllocError, Global};
 impl Charset {
     /// The text in the bytes of this charset, or `None` where the charset lacks a character of it.
     #[tactic(auto, unfolding(crate::specs::Charset::decoded_text))]
-    pub fn bytes_of(self, alloc: Global, text: &str) -> Result<Option<Vec<u8>>, AllocError>
+    pub fn encode_text(self, alloc: Global, text: &str) -> Result<Option<Vec<u8>>, AllocError>
         ensures { IfOk result (λ found. MatchOption found (Lacks self text.now) (λ bytes. decoded_text self bytes.items ≡ text.now)) }
     {
         if self.is_utf8() {

@@ -7,7 +7,7 @@ use Rattle.echo_addr.specs.{declared.address.NetNode.NetNode, Address.address_te
 use Rattle.echo_charset.specs.{declared.charset.Charset.Charset, declared.charset.Charset.TheVariants.Ascii, declared.charset.Charset.TheVariants.Latin1, Charset.charset_name}
 use Rattle.echo_filed.specs.Filed.{Filed}
 use Rattle.echo_text.specs.Echo.{EchoText, msgid_of, origin_of, reply_of, tear_of}
-use Rattle.echo_export.specs.declared.json_line.State.{State, TheVariants.Purged, TheVariants.Scanned, TheVariants.Waiting}
+use Rattle.echo_export.specs.declared.json_line.MessageState.{MessageState, TheVariants.Purged, TheVariants.Scanned, TheVariants.Waiting}
 use Rattle.echo_export.specs.Label.{charset_for, label_of, text_as, without_zeros}
 
 abbrev pub string_or_null : Option (List ℕ) → Token
@@ -23,7 +23,7 @@ text_member charset name bytes = member_of name (string (text_as charset bytes))
 abbrev pub found_member : Option Charset → List ℕ → Option (List ℕ) → List Token
 found_member charset name found = member_of name (string_or_null (option_map (text_as charset) found))
 
-abbrev pub state_word : State → List ℕ
+abbrev pub state_word : MessageState → List ℕ
 state_word Scanned = codes "scanned"
 state_word Waiting = codes "waiting"
 state_word Purged = codes "purged"
@@ -32,7 +32,7 @@ abbrev pub area_member : EchoText → List Token
 area_member e = text_member (Some Ascii) (codes "area") e.tag
 
 -- The message's number in the base, its state, and the system that sent it. A posting of this system has no sender.
-abbrev pub place_members : ℕ → State → Filed → List Token
+abbrev pub place_members : ℕ → MessageState → Filed → List Token
 place_members i state m =
     member_of (codes "number") (number (decimal i))
     ++ (area_member m.echo
@@ -75,14 +75,14 @@ list_members charset e =
 abbrev pub echo_members : Option Charset → EchoText → List Token
 echo_members charset e = found_members charset e.kept ++ list_members charset e
 
-abbrev pub message_members : Option (List ℕ) → ℕ → State → Filed → List Token
+abbrev pub message_members : Option (List ℕ) → ℕ → MessageState → Filed → List Token
 message_members label i state m =
     place_members i state m
     ++ (name_members (charset_for label) m
     ++ (charset_members label ++ echo_members (charset_for label) m.echo))
 
-abbrev pub message_object : ℕ → State → Filed → List Token
+abbrev pub message_object : ℕ → MessageState → Filed → List Token
 message_object i state m = begin_object ∷ (message_members (label_of m.echo.kept) i state m ++ end_object ∷ [])
 
-abbrev pub json_line : ℕ → State → Filed → List ℕ
+abbrev pub json_line : ℕ → MessageState → Filed → List ℕ
 json_line i state m = print (message_object i state m) ++ codes "\n"

@@ -121,7 +121,7 @@ quoted_body first [] = []
 quoted_body first (b ∷ rest) =
     (if first && starts_with nat_eq (b ∷ rest) from_word then codes ">" else []) ++ b ∷ quoted_body (b == 10) rest
 
--- A line of the body, without the line feeds at its front. Control lines are left out.
+-- A line of the body, without the line feeds at its front. Kludge lines are left out.
 abbrev pub body_line : Option Charset → List ℕ → List ℕ
 body_line charset line =
     if is_control line then [] else quoted_body true (mail_bytes charset (after_feeds line)) ++ codes "\n"

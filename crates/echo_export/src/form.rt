@@ -1,7 +1,7 @@
 ghost use Rattle.std.specs.Prelude.{◌≡◌, ◌++◌, IfOk, OnOk};
 ghost use Rattle.echo_export.specs.Forms.{message_lost, message_text};
 
-use crate::json_line::{State, push_json};
+use crate::json_line::{MessageState, push_json};
 use crate::mail::push_mail;
 use echo_filed::Filed;
 use std::alloc::{AllocError, Global};
@@ -19,7 +19,7 @@ pub fn push_message(
     lines: &mut Vec<u8>,
     form: Form,
     i: usize,
-    state: State,
+    state: MessageState,
     message: &Filed,
 ) -> Result<usize, AllocError>
     ensures text { OnOk result (lines.new.items ≡ lines.old.items ++ message_text form i state message.now) }

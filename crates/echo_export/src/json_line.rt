@@ -14,7 +14,7 @@ use std::alloc::{AllocError, Global};
 
 /// The state of a message of a base: it waits for a scan, it was scanned, or it is a stub.
 #[derive(Clone, Copy, Debug, PartialEq, Eq)]
-pub enum State {
+pub enum MessageState {
     Scanned,
     Waiting,
     Purged,
@@ -25,7 +25,7 @@ pub(crate) fn push_json(
     alloc: Global,
     lines: &mut Vec<u8>,
     i: usize,
-    state: State,
+    state: MessageState,
     message: &Filed,
 ) -> Result<usize, AllocError>
     ensures line { OnOk result (lines.new.items ≡ lines.old.items ++ json_line i state message.now) }
@@ -37,7 +37,12 @@ pub(crate) fn push_json(
     Ok(lost(&line))
 }
 
-fn object_of(alloc: Global, i: usize, state: State, message: &Filed) -> Result<Vec<u8>, AllocError>
+fn object_of(
+    alloc: Global,
+    i: usize,
+    state: MessageState,
+    message: &Filed,
+) -> Result<Vec<u8>, AllocError>
     ensures { IfOk result (λ line. line.items ≡ print (message_object i state message.now)) }
 {
     let mut writer = Writer::new(Vec::new(alloc));
@@ -49,7 +54,7 @@ fn write_object(
     writer: &mut Writer,
     alloc: Global,
     i: usize,
-    state: State,
+    state: MessageState,
     message: &Filed,
 ) -> Result<(), AllocError>
     ensures tokens { OnOk result (writer.new.tokens ≡ writer.old.tokens ++ message_object i state message.now) }
@@ -65,7 +70,7 @@ fn write_members(
     alloc: Global,
     label: Option<&[u8]>,
     i: usize,
-    state: State,
+    state: MessageState,
     message: &Filed,
 ) -> Result<(), AllocError>
     ensures tokens { OnOk result (writer.new.tokens ≡ writer.old.tokens ++ message_members (option_copied label.entry) i state message.now) }
@@ -82,7 +87,7 @@ fn write_place(
     writer: &mut Writer,
     alloc: Global,
     i: usize,
-    state: State,
+    state: MessageState,
     message: &Filed,
 ) -> Result<(), AllocError>
     ensures tokens { OnOk result (writer.new.tokens ≡ writer.old.tokens ++ place_members i state message.now) }
@@ -121,13 +126,13 @@ fn write_echo(
     write_lists(writer, alloc, charset, echo)
 }
 
-fn state_word(state: State) -> &'static str
+fn state_word(state: MessageState) -> &'static str
     ensures { result.now ≡ state_word state }
 {
     match state {
-        State::Scanned => "scanned",
-        State::Waiting => "waiting",
-        State::Purged => "purged",
+        MessageState::Scanned => "scanned",
+        MessageState::Waiting => "waiting",
+        MessageState::Purged => "purged",
     }
 }
 

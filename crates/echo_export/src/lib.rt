@@ -13,5 +13,5 @@ mod mail;
 mod members;
 
 pub use form::{Form, push_message};
-pub use json_line::State;
+pub use json_line::MessageState;
 pub use label::without_zeros;

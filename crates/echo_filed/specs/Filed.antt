@@ -6,7 +6,7 @@ use Rattle.echo_packet.specs.Message.{HasNoZero, max_name, max_subject}
 use Rattle.echo_text.specs.Echo.{EchoText, IsEcho, msgid_of}
 use Rattle.echo_filed.specs.declared.key.Key.{Key, TheVariants.ByContent, TheVariants.ById}
 
--- A control line with an id.
+-- A kludge line with an id.
 abbrev pub id_line : List ℕ → List ℕ → List ℕ
 id_line word id = word ++ (codes " " ++ id)
 

@@ -5,7 +5,7 @@ ghost use Rattle.echo_filed.specs.Fields.{HasLength, IsByte, IsLong, IsLongStrin
 ghost use Rattle.echo_filed.specs.Stored.{after_length, after_long_length, long};
 
 use crate::numbers::{long_of, word_of};
-use disk_io::{Broken, Source, fill_from, read_fixed};
+use disk_io::{Broken, Source, fill_buffer, read_fixed};
 use echo_addr::{Address, Items};
 use std::alloc::AllocError;
 
@@ -65,7 +65,7 @@ fn take_piece<R: Source>(reader: &mut R, string: &mut Vec<u8>, size: usize) -> R
     let step = (size - had).min(STEP);
     string.reserve_exact(step)?;
     string.resize(had + step, 0)?;
-    let consumed = fill_from(reader, string, had)?;
+    let consumed = fill_buffer(reader, string, had)?;
     if consumed < step {
         return Err(Broken::Cut);
     }

@@ -44,7 +44,7 @@ most_of_id = 100
 abbrev pub most_of_all : ℕ
 most_of_all = 4294967295
 
--- The content of a line: an id, the id of the message replied to, the program, PATH, SEEN-BY, or another control line. A
+-- The content of a line: an id, the id of the message replied to, the program, PATH, SEEN-BY, or another kludge line. A
 -- line of the body has none.
 abbrev pub content_of : List ℕ → Option Content
 content_of line =

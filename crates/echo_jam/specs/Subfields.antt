@@ -28,7 +28,7 @@ first_field kind bytes = first_within kind (length bytes) bytes
 abbrev pub field_or_none : ℕ → List ℕ → List ℕ
 field_or_none kind bytes = unwrap_or (first_field kind bytes) []
 
--- A line that begins with a word, and its 0D; and the control line of a subfield: the program, the time zone, or another.
+-- A line that begins with a word, and its 0D; and the kludge line of a subfield: the program, the time zone, or another.
 abbrev pub begun : List ℕ → List ℕ → List ℕ
 begun word content = ended (word ++ content)
 
@@ -38,7 +38,7 @@ control_line kind content =
     else (if kind == 2004 then begun (1 ∷ codes "TZUTC: ") content
     else (if kind == 2000 then begun (1 ∷ []) content else []))
 
--- The control lines of the first `n` subfields, and those of all.
+-- The kludge lines of the first `n` subfields, and those of all.
 abbrev pub controls_within : ℕ → List ℕ → List ℕ
 controls_within zero bytes = []
 controls_within (suc n) bytes =

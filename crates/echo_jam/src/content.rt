@@ -11,7 +11,7 @@ use std::alloc::AllocError;
 /// How many bytes the subfield of an id has at most.
 pub(crate) const MOST_OF_ID: usize = 100;
 
-/// That of the program that wrote the message, and of other control lines.
+/// That of the program that wrote the message, and of other kludge lines.
 const MOST_OF_PROGRAM: usize = 40;
 
 const MOST_OF_CONTROL: usize = 255;

@@ -31,7 +31,7 @@ fn push_fixed(bytes: &mut Vec<u8>, created: u32) -> Result<(), AllocError>
 }
 
 /// The counts of a base after `added` more messages. Counts beyond four bytes are refused as out of memory.
-pub fn counts_after(alloc: Global, standing: Standing, added: usize) -> Result<Vec<u8>, AllocError>
+pub fn next_counts(alloc: Global, standing: Standing, added: usize) -> Result<Vec<u8>, AllocError>
     ensures { IfOk result (λ bytes. bytes.items ≡ counts ((standing.changes + 1) % 2 ^ 32) (standing.counted + added)) }
 {
     let added = u32::try_from(added).map_err(|_| AllocError)?;

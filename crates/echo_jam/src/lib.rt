@@ -17,10 +17,10 @@ mod subfields;
 mod unsent;
 
 pub use crc::jam_crc;
-pub use fixed::{counts_after, new_fixed};
+pub use fixed::{new_fixed, next_counts};
 pub use links::link_replies;
 pub use message::{Jam, push_jam};
-pub use moment::seconds_of;
+pub use moment::date_seconds;
 pub use same::is_same;
-pub use standing::{Last, Standing, standing_in};
-pub use unsent::{ATTRIBUTE_AT, JamDraft, has_id, read_jam, sent_attribute, unsent_at};
+pub use standing::{Last, Standing, read_standing};
+pub use unsent::{ATTRIBUTE_AT, JamDraft, has_id, read_jam, read_unsent, sent_attribute};

@@ -9,7 +9,7 @@ use crate::content::{MOST_OF_ID, cuts_in, front};
 use crate::crc::jam_crc;
 use crate::fields::{push_body, push_line_fields, push_names, push_origin, push_word};
 use crate::long::{count_of, place_behind, push_long};
-use crate::moment::seconds_of;
+use crate::moment::date_seconds;
 use echo_addr::Address;
 use echo_filed::Filed;
 use echo_stored::{push_bytes, written_text};
@@ -145,7 +145,7 @@ fn push_back(
 ) -> Result<(), AllocError>
     ensures { OnOk result (header.new.items ≡ header.old.items ++ header_back scanned message.now number place size) }
 {
-    push_moments(header, seconds_of(&message.date))?;
+    push_moments(header, date_seconds(&message.date))?;
     push_number(header, number, jam_attribute(scanned, message.sender))?;
     push_place(header, place, size)
 }

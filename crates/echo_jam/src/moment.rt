@@ -3,7 +3,7 @@ ghost use Rattle.echo_jam.specs.Moment as moments;
 ghost use Rattle.echo_jam.specs.Moment.{days_at, days_before, early_month, is_laid_out, is_pair, late_month, month_of, pair, time_of, year_of, day_of};
 
 /// The seconds of a DateTime (FTS-0001), as if its zone were UTC; 0 where it has another form.
-pub fn seconds_of(date: &[u8; 20]) -> u32
+pub fn date_seconds(date: &[u8; 20]) -> u32
     ensures { result ≡ moments.seconds_of date.now }
 {
     if is_laid_out(date) {

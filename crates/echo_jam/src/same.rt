@@ -4,7 +4,7 @@ ghost use Rattle.echo_jam.specs.Same.{fields_at, is_same, written_at};
 
 use crate::content::front;
 use crate::message::{Parts, parts_of};
-use crate::moment::seconds_of;
+use crate::moment::date_seconds;
 use crate::standing::long_at;
 use echo_filed::Filed;
 use std::alloc::{AllocError, Global};
@@ -40,7 +40,7 @@ fn is_written_then(headers: &[u8], at: usize, message: &Filed) -> bool
     requires { at + 76 ≤ length headers.now }
     ensures { result ≡ (written_at headers.now at == moments.seconds_of message.now.date) }
 {
-    long_at(headers, at + 36) == seconds_of(&message.date)
+    long_at(headers, at + 36) == date_seconds(&message.date)
 }
 
 pub(crate) fn fields_at(headers: &[u8], at: usize) -> &[u8]

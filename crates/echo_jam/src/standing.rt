@@ -24,7 +24,7 @@ pub struct Standing {
 }
 
 /// The state of the base, with so many bytes of texts. None if the files are damaged, or no JAM base.
-pub fn standing_in(headers: &[u8], index: &[u8], texts: u64) -> Option<Standing>
+pub fn read_standing(headers: &[u8], index: &[u8], texts: u64) -> Option<Standing>
     ensures { result ≡ standing_in headers.now index.now texts }
 {
     if !is_base(headers, index, texts) {

@@ -9,7 +9,7 @@ use crate::same::fields_at;
 use crate::standing::{Last, entries_in, is_deleted, last_at, place_in};
 use crate::subfields::{controls_of, field_or_none};
 use echo_addr::Items;
-use echo_stored::body_of;
+use echo_stored::extract_body;
 use std::alloc::{AllocError, Global};
 
 /// The offset in a header of the byte with the bits Local and Sent.
@@ -28,7 +28,7 @@ pub struct JamDraft<'a> {
 }
 
 /// The message of an index entry, if it was written here, not sent yet and not deleted. `texts` is in bytes.
-pub fn unsent_at(headers: &[u8], index: &[u8], texts: u64, i: usize) -> Option<Last>
+pub fn read_unsent(headers: &[u8], index: &[u8], texts: u64, i: usize) -> Option<Last>
     ensures { result ≡ unsent.unsent_at headers.now index.now texts i }
 {
     if i < entries_in(index) && is_unsent(headers, place_in(index, i) as usize) {
@@ -81,7 +81,7 @@ pub fn read_jam<'a>(
         subject: field_or_none(fields, 6),
         reply: field_or_none(fields, 5),
         id: field_or_none(fields, 4),
-        body: Items::new(body_of(alloc, &lines)?),
+        body: Items::new(extract_body(alloc, &lines)?),
     })
 }
 

@@ -6,7 +6,7 @@ use Rattle.std.specs.{Option.option_or, List.list_any}
 use Rattle.echo_addr.specs.declared.address.Address.{Address}
 use Rattle.echo_links.specs.LinkLines.{area_in, file_fault, file_lines, file_of, first_fault, is_area_line, is_name_line, is_skipped, is_system_line, line_fault, name_in, no_address, system_in}
 use Rattle.echo_links.specs.LinkReading.{Adds, Holds, Knows, areas_of, is_area_known, kept, name_of, system_of}
-use Rattle.echo_links.specs.{declared.fault.LinkFault.LinkFault, declared.link_file.reading.Reading.Reading, Links.Area}
+use Rattle.echo_links.specs.{declared.fault.LinkFault.LinkFault, declared.link_file.reading.LinkFileParts.LinkFileParts, Links.Area}
 use Rattle.echo_links.specs.declared.fault.LinkFault.TheVariants as fault
 use Rattle.echo_links.proofs.{Found.bytes_turned, LinkBytes.no_lines_left, LinkBytes.skipped_word, LinkTaking.areas_one, LinkTaking.name_one, LinkTaking.or_none, LinkTaking.system_one}
 
@@ -86,12 +86,12 @@ one_tag area tag = elim (cases_Bool (bytes_eq area.tag tag)) [
 or_turned : (x y : Bool) → (x || y) ≡ (y || x)
 or_turned x y = grind arith
 
-knows_more : (earlier : List (List ℕ)) (line : List ℕ) (old new : Reading) → Knows earlier old → Adds (line ∷ []) old new → Knows (line ∷ earlier) new
+knows_more : (earlier : List (List ℕ)) (line : List ℕ) (old new : LinkFileParts) → Knows earlier old → Adds (line ∷ []) old new → Knows (line ∷ earlier) new
 knows_more earlier line old new knows adds = grind (arith, says_system, some_or, says_name, says_area, cases_Bool, cond-true, or_turned, one_tag, has_tag_append, cond-false, append-nil)
 
 -- ---- all lines
 
-pub record LinesRead (bytes : List ℕ) (number : ℕ) (rest : List ℕ) (r : Reading) : Type 0 where
+pub record LinesRead (bytes : List ℕ) (number : ℕ) (rest : List ℕ) (r : LinkFileParts) : Type 0 where
   pub earlier : List (List ℕ)
   pub knows : Knows earlier r
   pub faults : first_fault [] 1 (file_lines bytes) ≡ first_fault earlier (number + 1) (file_lines rest)
@@ -99,9 +99,9 @@ pub record LinesRead (bytes : List ℕ) (number : ℕ) (rest : List ℕ) (r : Re
   pub name : name_of (file_lines bytes) ≡ option_or r.name (name_of (file_lines rest))
   pub areas : areas_of (file_lines bytes) ≡ r.areas ++ areas_of (file_lines rest)
 
-module _ (bytes : List ℕ) (number : ℕ) (rest line after : List ℕ) (old : Reading) (h : LinesRead bytes number rest old)
+module _ (bytes : List ℕ) (number : ℕ) (rest line after : List ℕ) (old : LinkFileParts) (h : LinesRead bytes number rest old)
     (next : file_lines rest ≡ line ∷ file_lines after) where
-  pub lines_more : (new : Reading) → (line_fault h.earlier (number + 1) line ≡ None) × Adds (line ∷ []) old new → LinesRead bytes (number + 1) after new
+  pub lines_more : (new : LinkFileParts) → (line_fault h.earlier (number + 1) line ≡ None) × Adds (line ∷ []) old new → LinesRead bytes (number + 1) after new
   lines_more new takes = record {
     earlier = line ∷ h.earlier;
     knows = knows_more h.earlier line old new h.knows takes.1;
@@ -122,7 +122,7 @@ module _ (bytes : List ℕ) (number : ℕ) (rest line after : List ℕ) (old : R
       → (refused ≡ fault.Memory) ⊎ (first_fault [] 1 (file_lines bytes) ≡ Some refused)
   lines_bad refused h1 = grind arith
 
-pub lines_done : (bytes : List ℕ) (number : ℕ) (rest : List ℕ) (r : Reading) → LinesRead bytes number rest r → rest ≡ []
+pub lines_done : (bytes : List ℕ) (number : ℕ) (rest : List ℕ) (r : LinkFileParts) → LinesRead bytes number rest r → rest ≡ []
     → (first_fault [] 1 (file_lines bytes) ≡ None) × Holds (file_lines bytes) r
 unfolding system_of name_of areas_of
 lines_done bytes number rest r h none = grind (arith, no_lines_left, or_none, append-nil)
@@ -149,7 +149,7 @@ module _ (bytes : List ℕ) where
   unfolding file_fault
   file_bad refused h = ap (λ o. option_or o (cond (list_any is_system_line (kept (file_lines bytes))) None (Some (fault.NoSystem 0)))) h
 
-  module _ (fine : first_fault [] 1 (file_lines bytes) ≡ None) (r : Reading) (holds : Holds (file_lines bytes) r) where
+  module _ (fine : first_fault [] 1 (file_lines bytes) ≡ None) (r : LinkFileParts) (holds : Holds (file_lines bytes) r) where
     of_system : (b : Bool) → is_some r.system ≡ b → file_fault bytes ≡ cond b None (Some (fault.NoSystem 0))
     unfolding file_fault
     of_system b is = grind (arith, has_system)

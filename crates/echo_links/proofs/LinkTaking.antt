@@ -7,7 +7,7 @@ use Rattle.echo_addr.specs.{declared.address.Address.Address, Address.address_in
 use Rattle.echo_text.specs.Lines.{is_tag, trimmed}
 use Rattle.echo_links.specs.LinkLines.{after_first_of, area_fault, area_in, first_of, has_word, is_area_line, is_control_byte, is_name_line, is_skipped, is_system_line, line_fault, links_fault, name_fault, name_in, system_fault, system_in, words}
 use Rattle.echo_links.specs.LinkReading.{Adds, Knows, TakesLine, area_refusal, areas_of, is_area_known, name_of, name_refusal, system_of, system_refusal}
-use Rattle.echo_links.specs.{declared.fault.LinkFault.LinkFault, declared.link_file.reading.Reading.Reading, Links.Area, Links.upper}
+use Rattle.echo_links.specs.{declared.fault.LinkFault.LinkFault, declared.link_file.reading.LinkFileParts.LinkFileParts, Links.Area, Links.upper}
 use Rattle.echo_links.specs.declared.fault.LinkFault.TheVariants as fault
 use Rattle.echo_links.proofs.{LinkBytes.name_trimmed, LinkBytes.no_feed, LinkBytes.tokens_words, LinkFiles.other_word}
 
@@ -50,7 +50,7 @@ module _ (line : List ℕ) where
 
 -- ---- lines that are skipped, and lines of no kind
 
-pub skipped_taken : (earlier : List (List ℕ)) (number : ℕ) (line : List ℕ) (old : Reading) → is_skipped line ≡ true
+pub skipped_taken : (earlier : List (List ℕ)) (number : ℕ) (line : List ℕ) (old : LinkFileParts) → is_skipped line ≡ true
     → (line_fault earlier number line ≡ None) × Adds (line ∷ []) old old
 unfolding line_fault
 skipped_taken earlier number line old h = grind (arith, cond-true, or_none, system_skipped, name_skipped, append-nil, areas_skipped)
@@ -108,7 +108,7 @@ module _ (line word rest : List ℕ) (cut : IsCut line word rest) where
   unknown_refused earlier number s n a =
       of_none earlier number line cut.read cut.plain (kind_is (codes "SYSTEM") false s) (kind_is (codes "NAME") false n) (kind_is (codes "AREA") false a)
 
-  module _ (earlier : List (List ℕ)) (number : ℕ) (old new : Reading) (knows : Knows earlier old) where
+  module _ (earlier : List (List ℕ)) (number : ℕ) (old new : LinkFileParts) (knows : Knows earlier old) where
     module _ (is : bytes_eq word (codes "SYSTEM") ≡ true) where
       system_judged : line_fault earlier number line ≡ system_refusal (is_some old.system) number (tokens rest)
       system_judged = grind (arith, of_system, kind_is, left_is)
@@ -125,9 +125,9 @@ module _ (line word rest : List ℕ) (cut : IsCut line word rest) where
           let no_name = name_one line false cut.read (kind_is (codes "NAME") false (other_word word (codes "SYSTEM") (codes "NAME") refl is)) in
           let no_area = areas_one line false cut.read (kind_is (codes "AREA") false (other_word word (codes "SYSTEM") (codes "AREA") refl is)) in
           record {
-            system = ap (λ (r : Reading). r.system) new-is ∙ system_before old.system fine (address_in (first_of (tokens rest))) ∙ ap (option_or old.system) (sym said);
-            name = ap (λ (r : Reading). r.name) new-is ∙ or_none old.name ∙ ap (option_or old.name) (sym no_name);
-            areas = ap (λ (r : Reading). r.areas) new-is ∙ sym (append-nil old.areas) ∙ ap (λ all. old.areas ++ all) (sym no_area);
+            system = ap (λ (r : LinkFileParts). r.system) new-is ∙ system_before old.system fine (address_in (first_of (tokens rest))) ∙ ap (option_or old.system) (sym said);
+            name = ap (λ (r : LinkFileParts). r.name) new-is ∙ or_none old.name ∙ ap (option_or old.name) (sym no_name);
+            areas = ap (λ (r : LinkFileParts). r.areas) new-is ∙ sym (append-nil old.areas) ∙ ap (λ all. old.areas ++ all) (sym no_area);
           }
 
       pub system_taken : {T : Type 0} (r : Result T LinkFault) → MatchResult r
@@ -156,9 +156,9 @@ module _ (line word rest : List ℕ) (cut : IsCut line word rest) where
           let none = system_one line false cut.read no_system in
           let no_area = areas_one line false cut.read (kind_is (codes "AREA") false (other_word word (codes "NAME") (codes "AREA") refl is)) in
           record {
-            system = ap (λ (r : Reading). r.system) new-is ∙ or_none old.system ∙ ap (option_or old.system) (sym none);
-            name = ap (λ (r : Reading). r.name) new-is ∙ name_before old.name fine (trimmed rest) ∙ ap (option_or old.name) (sym said);
-            areas = ap (λ (r : Reading). r.areas) new-is ∙ sym (append-nil old.areas) ∙ ap (λ all. old.areas ++ all) (sym no_area);
+            system = ap (λ (r : LinkFileParts). r.system) new-is ∙ or_none old.system ∙ ap (option_or old.system) (sym none);
+            name = ap (λ (r : LinkFileParts). r.name) new-is ∙ name_before old.name fine (trimmed rest) ∙ ap (option_or old.name) (sym said);
+            areas = ap (λ (r : LinkFileParts). r.areas) new-is ∙ sym (append-nil old.areas) ∙ ap (λ all. old.areas ++ all) (sym no_area);
           }
 
       pub name_taken : {T : Type 0} (r : Result T LinkFault) → MatchResult r
@@ -183,9 +183,9 @@ module _ (line word rest : List ℕ) (cut : IsCut line word rest) where
           areas_one line true cut.read (kind_is (codes "AREA") true is)
           ∙ ap (λ (ws : List (List ℕ)). record { tag = upper (first_of ws); links = map address_in (after_first_of ws) } ∷ []) left_is in
           record {
-            system = ap (λ (r : Reading). r.system) new-is ∙ or_none old.system ∙ ap (option_or old.system) (sym (system_one line false cut.read no_own));
-            name = ap (λ (r : Reading). r.name) new-is ∙ or_none old.name ∙ ap (option_or old.name) (sym (name_one line false cut.read not_name));
-            areas = ap (λ (r : Reading). r.areas) new-is ∙ ap (λ all. old.areas ++ all) (sym said);
+            system = ap (λ (r : LinkFileParts). r.system) new-is ∙ or_none old.system ∙ ap (option_or old.system) (sym (system_one line false cut.read no_own));
+            name = ap (λ (r : LinkFileParts). r.name) new-is ∙ or_none old.name ∙ ap (option_or old.name) (sym (name_one line false cut.read not_name));
+            areas = ap (λ (r : LinkFileParts). r.areas) new-is ∙ ap (λ all. old.areas ++ all) (sym said);
           }
 
       pub area_taken : {T : Type 0} (r : Result T LinkFault) → MatchResult r

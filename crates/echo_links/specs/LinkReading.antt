@@ -4,7 +4,7 @@ use Rattle.std.specs.{Option.option_or, List.list_any}
 use Rattle.echo_addr.specs.{declared.address.Address.Address, Address.address_in, Address.outcome}
 use Rattle.echo_text.specs.Lines.{is_tag}
 use Rattle.echo_links.specs.LinkLines.{after_first_of, area_in, file_lines, first_fault, first_of, is_area_line, is_name_line, is_one_address, is_skipped, is_system_line, line_fault, links_fault, name_in, system_in, tag_in}
-use Rattle.echo_links.specs.{declared.fault.LinkFault.LinkFault, declared.link_file.reading.Reading.Reading, Links.Area, Links.upper}
+use Rattle.echo_links.specs.{declared.fault.LinkFault.LinkFault, declared.link_file.reading.LinkFileParts.LinkFileParts, Links.Area, Links.upper}
 use Rattle.echo_links.specs.declared.fault.LinkFault.TheVariants as fault
 
 -- The address of the word, or `None` if the word is no address.
@@ -50,27 +50,27 @@ unfoldable pub areas_of : List (List ℕ) → List Area
 areas_of lines = map area_in (filter is_area_line (kept lines))
 
 -- The reader has exactly the parts of these earlier lines.
-pub record Knows (earlier : List (List ℕ)) (r : Reading) : Type 0 where
+pub record Knows (earlier : List (List ℕ)) (r : LinkFileParts) : Type 0 where
   pub system : list_any is_system_line earlier ≡ is_some r.system
   pub name : list_any is_name_line earlier ≡ is_some r.name
   pub areas : (tag : List ℕ) → list_any (bytes_eq tag) (map tag_in (filter is_area_line earlier)) ≡ is_area_known r.areas tag
 
 -- The reader has its old parts and those of these lines.
-pub record Adds (lines : List (List ℕ)) (old new : Reading) : Type 0 where
+pub record Adds (lines : List (List ℕ)) (old new : LinkFileParts) : Type 0 where
   pub system : new.system ≡ option_or old.system (system_of lines)
   pub name : new.name ≡ option_or old.name (name_of lines)
   pub areas : new.areas ≡ old.areas ++ areas_of lines
 
-abbrev pub TakesLine : {T : Type 0} → List (List ℕ) → ℕ → List ℕ → Reading → Reading → Result T LinkFault → Type 0
+abbrev pub TakesLine : {T : Type 0} → List (List ℕ) → ℕ → List ℕ → LinkFileParts → LinkFileParts → Result T LinkFault → Type 0
 TakesLine earlier number line old new (Ok _) = (line_fault earlier number line ≡ None) × Adds (line ∷ []) old new
 TakesLine earlier number line old new (Err refused) = (refused ≡ fault.Memory) ⊎ (line_fault earlier number line ≡ Some refused)
 
 -- The reader has the parts of these lines.
-pub record Holds (lines : List (List ℕ)) (r : Reading) : Type 0 where
+pub record Holds (lines : List (List ℕ)) (r : LinkFileParts) : Type 0 where
   pub system : r.system ≡ system_of lines
   pub name : r.name ≡ name_of lines
   pub areas : r.areas ≡ areas_of lines
 
-abbrev pub ReadsLinkFile : List ℕ → Result Reading LinkFault → Type 0
+abbrev pub ReadsLinkFile : List ℕ → Result LinkFileParts LinkFault → Type 0
 ReadsLinkFile bytes (Ok r) = (first_fault [] 1 (file_lines bytes) ≡ None) × Holds (file_lines bytes) r
 ReadsLinkFile bytes (Err refused) = (refused ≡ fault.Memory) ⊎ (first_fault [] 1 (file_lines bytes) ≡ Some refused)

@@ -5,7 +5,7 @@ use Rattle.base64.specs.{GeneralPurpose.decoded_of, Engines.standard}
 use Rattle.echo_addr.specs.Entries.{is_blank}
 use Rattle.echo_charset.specs.{declared.charset.Charset.Charset, declared.charset.Charset.TheVariants.Utf8, Charset.decoded_text, Charset.is_called}
 use Rattle.echo_text.specs.Lines.{lines}
-use Rattle.echo_mail.specs.declared.encoded.Before.{Before, TheVariants.Encoded, TheVariants.Nothing, TheVariants.Word}
+use Rattle.echo_mail.specs.declared.encoded.PrecedingText.{PrecedingText, TheVariants.Encoded, TheVariants.Nothing, TheVariants.Word}
 use Rattle.echo_mail.specs.{Content.known_charset, Quoted.unescaped}
 
 -- A `_` is a blank in the encoding Q.
@@ -58,22 +58,22 @@ unfoldable pub word_text : List ℕ → Option (List ℕ)
 word_text word = if starts_with nat_eq word (codes "=?") then inner_text (drop 2 word) else None
 
 -- The blank before a word. Between two encoded words there is no blank.
-abbrev pub gap : Before → Bool → List ℕ
+abbrev pub gap : PrecedingText → Bool → List ℕ
 gap Nothing joins = []
 gap Word joins = 32 ∷ []
 gap Encoded joins = if joins then [] else 32 ∷ []
 
 -- A word, decoded if it is encoded, and the blank before it.
-abbrev pub next_text : Before → List ℕ → Option (List ℕ) → List ℕ
+abbrev pub next_text : PrecedingText → List ℕ → Option (List ℕ) → List ℕ
 next_text before word found = gap before (is_some found || (length word == 0)) ++ unwrap_or found word
 
 -- The kind of word before the next one. An empty word between two blanks changes nothing.
-abbrev pub next_before : Before → List ℕ → Option (List ℕ) → Before
+abbrev pub next_before : PrecedingText → List ℕ → Option (List ℕ) → PrecedingText
 next_before before word None = if length word == 0 then before else Word
 next_before before word (Some said) = Encoded
 
 -- Words with their blanks.
-abbrev pub words_text : Before → List (List ℕ) → List ℕ
+abbrev pub words_text : PrecedingText → List (List ℕ) → List ℕ
 words_text before [] = []
 words_text before (word ∷ later) =
     next_text before word (word_text word) ++ words_text (next_before before word (word_text word)) later

@@ -1,18 +1,18 @@
 ghost use Rattle.std.specs.Prelude.{◌≡◌, ◌==◌, ◌≤◌, length, not, option_copied, take_while};
 ghost use Rattle.echo_mail.specs.Area.{area_in, first_group};
 
-use crate::body::value_in;
+use crate::body::field_value;
 use crate::head::Field;
 use echo_text::trimmed;
 
 /// The area that the header of a mail names: the value of X-FTN-Area, or else the first newsgroup.
-pub fn area_in(fields: &[Field]) -> Option<&[u8]>
+pub fn named_area(fields: &[Field]) -> Option<&[u8]>
     ensures { option_copied result ≡ area_in fields.now }
 {
-    if let Some(area) = value_in(fields, b"X-FTN-Area") {
+    if let Some(area) = field_value(fields, b"X-FTN-Area") {
         return Some(area);
     }
-    match value_in(fields, b"Newsgroups") {
+    match field_value(fields, b"Newsgroups") {
         Some(groups) => Some(first_group(groups)),
         None => None,
     }

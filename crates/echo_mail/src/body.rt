@@ -25,7 +25,7 @@ pub fn body_text(alloc: Global, mail: &Mail) -> Result<String, MailFault>
 fn body_charset(mail: &Mail) -> Result<Charset, MailFault>
     ensures { result ≡ body_charset mail.now }
 {
-    charset_of(value_in(mail.fields.as_slice(), b"Content-Type"))
+    charset_of(field_value(mail.fields.as_slice(), b"Content-Type"))
 }
 
 fn text_or_fault(alloc: Global, charset: Charset, mail: &Mail) -> Result<String, MailFault>
@@ -40,7 +40,7 @@ fn text_or_fault(alloc: Global, charset: Charset, mail: &Mail) -> Result<String,
 fn body_bytes(alloc: Global, mail: &Mail) -> Result<Items<u8>, MailFault>
     ensures { Gives result (body_bytes mail.now) }
 {
-    let word = value_in(mail.fields.as_slice(), b"Content-Transfer-Encoding");
+    let word = field_value(mail.fields.as_slice(), b"Content-Transfer-Encoding");
     transferred(alloc, word, mail.body.as_slice())
 }
 
@@ -53,7 +53,7 @@ fn text_with(alloc: Global, charset: Charset, bytes: &[u8]) -> Result<String, Ma
 
 /// The value of the first field of this name, in letters of either case.
 #[tactic(auto, unfolding(crate::specs::Body::value_in))]
-pub fn value_in<'a>(fields: &'a [Field], name: &[u8]) -> Option<&'a [u8]>
+pub fn field_value<'a>(fields: &'a [Field], name: &[u8]) -> Option<&'a [u8]>
     ensures { option_copied result ≡ value_in fields.now name.now }
 {
     match fields

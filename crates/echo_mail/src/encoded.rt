@@ -3,7 +3,7 @@ ghost use Rattle.std.specs.Prelude.{◌≡◌, ◌++◌, ◌≤◌, ◌==◌, le
 ghost use Rattle.std.specs.List.{after_first, before_first};
 ghost use Rattle.echo_text.specs.Lines.{lines};
 ghost use Rattle.echo_mail.specs.Encoded.{coded, cut_at_blanks, decoded_words, encoded_text, gap, inner_text, next_before, next_text, q_bytes, return_for, space_for, word_bytes, word_text, words_text};
-ghost use Rattle.echo_mail.specs.declared.encoded.Before.TheVariants.{Nothing};
+ghost use Rattle.echo_mail.specs.declared.encoded.PrecedingText.TheVariants.{Nothing};
 
 use crate::content::known_charset;
 use crate::ends::behind;
@@ -16,7 +16,7 @@ use std::alloc::{AllocError, Global};
 
 /// The text before a word of a field.
 #[derive(Clone, Copy, Debug, PartialEq, Eq)]
-pub(crate) enum Before {
+pub(crate) enum PrecedingText {
     Nothing,
     Word,
     Encoded,
@@ -48,7 +48,7 @@ fn return_for(byte: u8) -> u8
 fn push_words(text: &mut Vec<u8>, alloc: Global, words: &[u8]) -> Result<(), AllocError>
     ensures { OnOk result (text.new.items ≡ text.old.items ++ words_text Nothing (lines words.now)) }
 {
-    let mut before = Before::Nothing;
+    let mut before = PrecedingText::Nothing;
     let mut rest = words;
     'words: while !rest.is_empty() {
         let (word, after) = split_line(rest);
@@ -62,7 +62,7 @@ fn push_words(text: &mut Vec<u8>, alloc: Global, words: &[u8]) -> Result<(), All
 
 fn push_next(
     text: &mut Vec<u8>,
-    before: Before,
+    before: PrecedingText,
     word: &[u8],
     found: &Option<Items<u8>>,
 ) -> Result<(), AllocError>
@@ -75,26 +75,26 @@ fn push_next(
     }
 }
 
-fn gap(before: Before, joins: bool) -> &'static [u8]
+fn gap(before: PrecedingText, joins: bool) -> &'static [u8]
     ensures { result.now ≡ gap before joins }
 {
     match before {
-        Before::Nothing => b"",
-        Before::Word => b" ",
-        Before::Encoded => { if joins { b"" } else { b" " } }
+        PrecedingText::Nothing => b"",
+        PrecedingText::Word => b" ",
+        PrecedingText::Encoded => { if joins { b"" } else { b" " } }
     }
 }
 
-fn next_before(before: Before, word: &[u8], found: &Option<Items<u8>>) -> Before
+fn next_before(before: PrecedingText, word: &[u8], found: &Option<Items<u8>>) -> PrecedingText
     ensures { result ≡ next_before before word.now found.now }
 {
     match found {
-        Some(_) => Before::Encoded,
+        Some(_) => PrecedingText::Encoded,
         None => {
             if word.is_empty() {
                 before
             } else {
-                Before::Word
+                PrecedingText::Word
             }
         }
     }

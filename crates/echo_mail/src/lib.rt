@@ -15,8 +15,8 @@ mod msgid;
 mod quoted;
 mod transfer;
 
-pub use area::area_in;
-pub use body::{body_text, value_in};
+pub use area::named_area;
+pub use body::{body_text, field_value};
 pub use encoded::decoded_words;
 pub use fault::MailFault;
 pub use head::Field;

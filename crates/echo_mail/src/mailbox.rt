@@ -9,7 +9,7 @@ use std::alloc::{AllocError, Global};
 
 /// The place of a byte: its depth in comments, whether in a quoted string, whether after a backslash there.
 #[derive(Clone, Copy, Debug, PartialEq, Eq)]
-pub(crate) struct Place {
+pub(crate) struct QuotingState {
     pub depth: usize,
     pub quoted: bool,
     pub escaped: bool,
@@ -44,7 +44,7 @@ fn name_len(value: &[u8]) -> usize
     ensures within { result ≤ length value.now }
 {
     let mut count = 0;
-    let mut place = Place {
+    let mut place = QuotingState {
         depth: 0,
         quoted: false,
         escaped: false,
@@ -66,7 +66,7 @@ fn bare_name(alloc: Global, value: &[u8]) -> Result<Vec<u8>, AllocError>
     ensures { IfOk result (λ name. name.items ≡ bare_name start value.now) }
 {
     let mut name = Vec::new(alloc);
-    let mut place = Place {
+    let mut place = QuotingState {
         depth: 0,
         quoted: false,
         escaped: false,
@@ -83,18 +83,18 @@ fn bare_name(alloc: Global, value: &[u8]) -> Result<Vec<u8>, AllocError>
     Ok(name)
 }
 
-fn next_place(place: Place, byte: u8) -> Place
+fn next_place(place: QuotingState, byte: u8) -> QuotingState
     requires { place.depth + 1 < 2 ^ 64 }
     ensures { result ≡ next_place place byte }
 {
-    Place {
+    QuotingState {
         depth: next_depth(place, byte),
         quoted: next_quoted(place, byte),
         escaped: is_open(place) && !place.escaped && byte == b'\\',
     }
 }
 
-fn next_depth(place: Place, byte: u8) -> usize
+fn next_depth(place: QuotingState, byte: u8) -> usize
     requires { place.depth + 1 < 2 ^ 64 }
     ensures { result ≡ next_depth place byte }
 {
@@ -109,7 +109,7 @@ fn next_depth(place: Place, byte: u8) -> usize
     }
 }
 
-fn next_quoted(place: Place, byte: u8) -> bool
+fn next_quoted(place: QuotingState, byte: u8) -> bool
     ensures { result ≡ next_quoted place byte }
 {
     if place.escaped || place.depth > 0 || byte != b'"' {
@@ -119,19 +119,19 @@ fn next_quoted(place: Place, byte: u8) -> bool
     }
 }
 
-fn is_open(place: Place) -> bool
+fn is_open(place: QuotingState) -> bool
     ensures { result ≡ is_open place }
 {
     place.quoted || place.depth > 0
 }
 
-fn ends_name(place: Place, byte: u8) -> bool
+fn ends_name(place: QuotingState, byte: u8) -> bool
     ensures { result ≡ ends_name place byte }
 {
     !is_open(place) && (byte == b'<' || byte == b',')
 }
 
-fn is_name_part(place: Place, byte: u8) -> bool
+fn is_name_part(place: QuotingState, byte: u8) -> bool
     ensures { result ≡ is_name_part place byte }
 {
     if place.depth > 0 {

@@ -18,7 +18,7 @@ use std::alloc::{AllocError, Global};
 /// The carriers of an area and its links, ascending, each once, and the numbers of carriers and of pairs of
 /// linked systems.
 #[derive(Drop)]
-pub struct Area {
+pub struct AreaGraph {
     pub carriers: Vec<Address>,
     pub links: Vec<Link>,
     pub systems: usize,
@@ -26,7 +26,7 @@ pub struct Area {
 }
 
 /// The area of the files.
-pub fn area_of(alloc: Global, files: &[LinkFile], tag: &[u8]) -> Result<Area, AllocError>
+pub fn collect_area(alloc: Global, files: &[LinkFile], tag: &[u8]) -> Result<AreaGraph, AllocError>
     ensures carriers { IfOk result (λ area. IsStrictlySortedBy ⟦<Address as Ord>⟧.cmp area.carriers.items) }
     ensures links { IfOk result (λ area. IsStrictlySortedBy ⟦<Link as Ord>⟧.cmp area.links.items) }
     ensures members { IfOk result (λ area. (a : Address) → Contains area.carriers.items a ↔ IsTrue (carries files.now tag.now a)) }
@@ -40,7 +40,7 @@ pub fn area_of(alloc: Global, files: &[LinkFile], tag: &[u8]) -> Result<Area, Al
     let pairs = count_upward(&links);
     put_in_order(&mut carriers);
     put_in_order(&mut links);
-    Ok(Area {
+    Ok(AreaGraph {
         carriers,
         links,
         systems,

@@ -5,7 +5,7 @@ ghost use Rattle.model_run.specs.{AnyState.NewMessagesAreInOrder, Tidy.Tidy};
 ghost use Rattle.echo_net.specs.Faults.{IfNo, IfYes, IsFirstFault, IsSharedSystem, IsYes};
 ghost use Rattle.echo_net.specs.Nets.{carrier_count, linked_pairs};
 
-use crate::area::{Area, area_of};
+use crate::area::{AreaGraph, collect_area};
 use crate::carriers::systems;
 use crate::graph_faults::{area_graph, graph_fault};
 use crate::link_faults::link_fault;
@@ -61,8 +61,8 @@ pub fn check_area(
     ensures orderly { IfOk result (λ verdict. IsYes verdict → NewMessagesAreInOrder files.now tag.now) }
     ensures first { IfOk result (λ verdict. IfNo verdict (IsFirstFault files.now tag.now)) }
 {
-    let area = area_of(alloc, files, tag)?;
-    let Area {
+    let area = collect_area(alloc, files, tag)?;
+    let AreaGraph {
         carriers,
         links,
         systems,

@@ -9,7 +9,7 @@ ghost use Rattle.echo_net.specs.declared.each_fault.Kind.TheVariants as kinds;
 ghost use Rattle.echo_net.specs.AllFaults.{AddsLinkFaults, AddsTwoFiles, AreAllFaults, AreFurther, AreLinkFaults, fault_of, fault_where, is_one_sided, is_self_link, is_unknown};
 ghost use Rattle.echo_net.specs.{declared.link.Link.Link, declared.verdict.NetFault.NetFault, Faults.IfNo, Faults.IsFirstFault};
 
-use crate::area::{Area, area_of};
+use crate::area::{AreaGraph, collect_area};
 use crate::carriers::systems;
 use crate::drawing::{back, has_address, has_link};
 use crate::graph_faults::{area_graph, push_pieces};
@@ -41,7 +41,7 @@ pub fn all_faults(
 ) -> Result<Vec<NetFault>, AllocError>
     ensures { IfOk result (λ all. AreAllFaults files.now tag.now all.items) }
 {
-    let area = area_of(alloc, files, tag)?;
+    let area = collect_area(alloc, files, tag)?;
     let mut all = link_faults(alloc, files, tag, &area.carriers, &area.links)?;
     if all.is_empty() {
         let graph = area_graph(alloc, files, tag, &area.carriers, &area.links)?;

@@ -12,7 +12,7 @@ use crate::rows::rows;
 use crate::verdict::NetFault;
 use echo_addr::{Address, Items};
 use echo_links::LinkFile;
-use model_graph::{Graph, loop_of, pieces_of, unreached};
+use model_graph::{Graph, find_loop, find_pieces, unreached};
 use std::alloc::{AllocError, Global};
 
 /// The graph of an area with faultless links. Its members are the indexes of the carriers.
@@ -54,7 +54,7 @@ pub fn graph_fault(
     if let Some(place) = apart {
         return Ok(Some(NetFault::Apart(carriers[0], carriers[place])));
     }
-    let round = loop_of(alloc, graph)?;
+    let round = find_loop(alloc, graph)?;
     match round {
         Some(named) => {
             let systems = systems_at(alloc, carriers, &named.round)?;
@@ -84,7 +84,7 @@ pub fn push_pieces(
     carriers: &[Address],
     graph: &Graph,
 ) -> Result<(), AllocError> {
-    let pieces = pieces_of(alloc, graph)?;
+    let pieces = find_pieces(alloc, graph)?;
     let Some(first) = carriers.first() else {
         return Ok(());
     };

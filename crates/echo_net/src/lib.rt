@@ -33,6 +33,6 @@ pub use checker::{check, check_area, shared_system};
 pub use drawing::{Crossing, Drawing, DrawnLink, DrawnSystem, Mark, Sides, draw};
 pub use each_fault::{all_faults, further};
 pub use listing::{Listing, missing};
-pub use parts::cut_off;
+pub use parts::cut_parts;
 pub use presence::{Absence, listed};
 pub use verdict::{NetFault, Verdict};

@@ -11,7 +11,7 @@ ghost use Rattle.echo_net.specs.Nets as net;
 use crate::carriers::{links, systems};
 use crate::drawing::{back, has_address};
 use crate::link::Link;
-use crate::rows::links_from;
+use crate::rows::outgoing_links;
 use echo_addr::{Address, put_in_order};
 use echo_links::LinkFile;
 use std::alloc::{AllocError, Global};
@@ -54,7 +54,7 @@ impl Listing {
     pub fn has(&self, system: Address) -> bool
         ensures { (files : List LinkFile) (tag : List ℕ) → IsListing files tag self.now → result ≡ is_listed files tag system }
     {
-        !links_from(&self.backs, system).is_empty()
+        !outgoing_links(&self.backs, system).is_empty()
     }
 
     /// The systems that list this one, ascending, each once. Fails only when out of memory.
@@ -62,7 +62,7 @@ impl Listing {
         ensures ascending { IfOk result (λ all. IsStrictlySortedBy ⟦<Address as Ord>⟧.cmp all.items) }
         ensures members { IfOk result (λ all. (b : Address) → Contains all.items b ↔ Contains self.now (net.link system b)) }
     {
-        let mut all = ends(alloc, links_from(&self.backs, system))?;
+        let mut all = ends(alloc, outgoing_links(&self.backs, system))?;
         put_in_order(&mut all);
         Ok(all)
     }

@@ -17,7 +17,7 @@ use std::alloc::{AllocError, Global};
 
 /// The parts of the area that are cut off: each part but the largest, by the smallest systems. Of two largest parts the
 /// first is not cut off. Fails only when out of memory.
-pub fn cut_off(
+pub fn cut_parts(
     alloc: Global,
     files: &[LinkFile],
     tag: &[u8],

@@ -21,7 +21,7 @@ pub fn rows(alloc: Global, carriers: &[Address], links: &[Link]) -> Result<Vec<L
 {
     let mut rows = Vec::new(alloc);
     'carriers: for system in carriers {
-        let run = links_from(links, *system);
+        let run = outgoing_links(links, *system);
         let row = row(alloc, carriers, run)?;
         rows.push(Links::new(row))?;
     }
@@ -29,7 +29,7 @@ pub fn rows(alloc: Global, carriers: &[Address], links: &[Link]) -> Result<Vec<L
 }
 
 /// The links from this system.
-pub fn links_from(links: &[Link], system: Address) -> &[Link]
+pub fn outgoing_links(links: &[Link], system: Address) -> &[Link]
     requires { IsStrictlySortedBy ⟦<Link as Ord>⟧.cmp links.now }
     ensures { (l : Link) → Contains result.now l ↔ (Contains links.now l × (l.from ≡ system)) }
 {

@@ -4,14 +4,14 @@ use Rattle.std.proofs.Common.{◌≡◌, ◌≢◌, ℕ, ◌+◌, ◌<◌, ◌�
 use Rattle.std.proofs.lemmas.List.{get_or-append_right, get_or_append_left, length-append, length-reverse, reverse-append, reverse-reverse, take-append-le, take_all}
 use Rattle.std.proofs.{Math.ListN.get_or-eq_default, lemmas.Bool.cases_lt, lemmas.Bool.cond_both, lemmas.Bool.ltb-false, lemmas.Bool.ltb-true}
 use Rattle.echo_addr.specs.declared.address.Address.{Address}
-use Rattle.echo_nodelist.specs.{Back.Finds, Back.address_back, Back.each_back, Back.lines_back, Back.zone_back, Nodelist.in_zone, Nodelist.placed, Place.Follows, Place.IsLocated, Place.IsPlaceAfter, Place.Locates, declared.place.Place.Place, declared.place.Located.Located, declared.keyword.Keyword.Keyword, declared.line.Line.Line, declared.line.Line.TheVariants.Entry, declared.fault.NodeFault.TheVariants.NoZone}
+use Rattle.echo_nodelist.specs.{Back.Finds, Back.address_back, Back.each_back, Back.lines_back, Back.zone_back, Nodelist.in_zone, Nodelist.placed, Place.Follows, Place.IsLocated, Place.IsPlaceAfter, Place.Locates, declared.place.ZoneNet.ZoneNet, declared.place.Located.Located, declared.keyword.Keyword.Keyword, declared.line.Line.Line, declared.line.Line.TheVariants.Entry, declared.fault.NodeFault.TheVariants.NoZone}
 
 pub tell_none : (at : ℕ) (earlier : List Line) (k : Keyword) (n : ℕ) (fields : List (List ℕ)) (line : Line) → line ≡ Entry k n fields
     → zone_back (Entry k n fields ∷ earlier) ≡ None → placed at earlier (Ok line) ≡ Err (NoZone at)
 tell_none at earlier k n fields line is none =
     ap (λ l. placed at earlier (Ok l)) is ∙ ap (λ z. in_zone at z (Entry k n fields)) none
 
-pub tell_some : (at : ℕ) (earlier : List Line) (k : Keyword) (n : ℕ) (fields : List (List ℕ)) (line : Line) (here : Place) (address : Address)
+pub tell_some : (at : ℕ) (earlier : List Line) (k : Keyword) (n : ℕ) (fields : List (List ℕ)) (line : Line) (here : ZoneNet) (address : Address)
     → line ≡ Entry k n fields → IsPlaceAfter (Entry k n fields ∷ earlier) (Some here) → address_back (Entry k n fields ∷ earlier) ≡ Some address
     → Locates at earlier line (Ok (record { address = Some address; place = Some here }))
 tell_some at earlier k n fields line here address is stands address_is = grind arith
@@ -19,7 +19,7 @@ tell_some at earlier k n fields line here address is stands address_is = grind a
 pub reverse-push : {A : Type 0} (xs : List A) (x : A) → reverse (xs ++ x ∷ []) ≡ x ∷ reverse xs
 reverse-push xs x = reverse-append xs (x ∷ [])
 
-pub follows_more : (lines : List Line) (addresses : List (Option Address)) (place : Option Place) (line : Line) (located : Located)
+pub follows_more : (lines : List Line) (addresses : List (Option Address)) (place : Option ZoneNet) (line : Line) (located : Located)
     → Follows lines addresses place → IsLocated (reverse lines) line located → Follows (lines ++ line ∷ []) (addresses ++ located.address ∷ []) located.place
 follows_more lines addresses place line located before now = grind (arith, reverse-push)
 

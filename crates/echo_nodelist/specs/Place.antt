@@ -1,10 +1,10 @@
 -- The facts that the earlier lines give for the next line. Lists of lines begin with the nearest.
 use Rattle.std.specs.Prelude.{◌≡◌, ℕ, List, ◌∷◌, reverse, Option, Some, None, Result, Ok, Err}
 use Rattle.echo_addr.specs.declared.address.Address.{Address}
-use Rattle.echo_nodelist.specs.{declared.place.Place.Place, declared.place.Located.Located, declared.line.Line.Line, declared.fault.NodeFault.NodeFault, Back.address_back, Back.each_back, Back.net_back, Back.zone_back, Nodelist.placed}
+use Rattle.echo_nodelist.specs.{declared.place.ZoneNet.ZoneNet, declared.place.Located.Located, declared.line.Line.Line, declared.fault.NodeFault.NodeFault, Back.address_back, Back.each_back, Back.net_back, Back.zone_back, Nodelist.placed}
 
 -- The place after these lines, or `None` before the first Zone line.
-abbrev pub IsPlaceAfter : List Line → Option Place → Type 0
+abbrev pub IsPlaceAfter : List Line → Option ZoneNet → Type 0
 IsPlaceAfter earlier None = zone_back earlier ≡ None
 IsPlaceAfter earlier (Some here) = (zone_back earlier ≡ Some here.zone) × (net_back earlier ≡ Some here.net)
 
@@ -19,6 +19,6 @@ Locates at earlier line (Ok located) = (placed at earlier (Ok line) ≡ Ok line)
 Locates at earlier line (Err fault) = placed at earlier (Ok line) ≡ Err fault
 
 -- The state of a reader after the lines that it has read, in order.
-pub record Follows (lines : List Line) (addresses : List (Option Address)) (place : Option Place) : Type 0 where
+pub record Follows (lines : List Line) (addresses : List (Option Address)) (place : Option ZoneNet) : Type 0 where
   pub stands : IsPlaceAfter (reverse lines) place
   pub address_each : addresses ≡ each_back address_back (reverse lines)

@@ -51,7 +51,7 @@ impl Nodelist {
     }
 
     /// The address of the line at an index, from 0; none for a Note, and past the last line.
-    pub fn address_of(&self, i: usize) -> Option<Address>
+    pub fn line_address(&self, i: usize) -> Option<Address>
         ensures { result ≡ address_at self.now i }
     {
         kept_at(&self.addresses, i)
@@ -59,7 +59,7 @@ impl Nodelist {
 
     /// The address of the Hub over the line at an index, from 0. Only entries Pvt, Hold, Down or without keyword have
     /// one: the nearest Hub line before them in their net. The search goes back to the start of the net.
-    pub fn hub_of(&self, i: usize) -> Option<Address>
+    pub fn line_hub(&self, i: usize) -> Option<Address>
         ensures { result ≡ hub_at self.now i }
     {
         hub_at(&self.lines, &self.addresses, i)

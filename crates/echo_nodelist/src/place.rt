@@ -8,7 +8,7 @@ use echo_addr::Address;
 
 /// The zone and net of a line, by the lines up to it.
 #[derive(Clone, Copy)]
-pub(crate) struct Place {
+pub(crate) struct ZoneNet {
     zone: u16,
     net: u16,
 }
@@ -16,10 +16,14 @@ pub(crate) struct Place {
 #[derive(Clone, Copy)]
 pub(crate) struct Located {
     pub(crate) address: Option<Address>,
-    pub(crate) place: Option<Place>,
+    pub(crate) place: Option<ZoneNet>,
 }
 
-pub(crate) fn locate(place: Option<Place>, number: usize, line: &Line) -> Result<Located, NodeFault>
+pub(crate) fn locate(
+    place: Option<ZoneNet>,
+    number: usize,
+    line: &Line,
+) -> Result<Located, NodeFault>
     ensures { (earlier : List Line) → IsPlaceAfter earlier place → Locates number earlier line.now result }
 {
     let Line::Entry {
@@ -42,11 +46,11 @@ pub(crate) fn locate(place: Option<Place>, number: usize, line: &Line) -> Result
     })
 }
 
-fn after(place: Option<Place>, keyword: Keyword, number: u16) -> Option<Place>
+fn after(place: Option<ZoneNet>, keyword: Keyword, number: u16) -> Option<ZoneNet>
     ensures { (earlier : List Line) (fields : List (List ℕ)) → IsPlaceAfter earlier place → IsPlaceAfter (Entry keyword number fields ∷ earlier) result }
 {
     if keyword.is_zone() {
-        return Some(Place {
+        return Some(ZoneNet {
             zone: number,
             net: number,
         });
@@ -58,7 +62,7 @@ fn after(place: Option<Place>, keyword: Keyword, number: u16) -> Option<Place>
     Some(here)
 }
 
-fn address(here: Place, keyword: Keyword, number: u16) -> Address
+fn address(here: ZoneNet, keyword: Keyword, number: u16) -> Address
     ensures { (earlier : List Line) (fields : List (List ℕ)) → IsPlaceAfter (Entry keyword number fields ∷ earlier) (Some here)
         → address_back (Entry keyword number fields ∷ earlier) ≡ Some result }
 {

@@ -4,18 +4,18 @@ ghost use Rattle.echo_nodelist.specs.{declared.fault.NodeFault.TheVariants.Memor
 use crate::cutting::split_line;
 use crate::fault::NodeFault;
 use crate::line::{Line, read_line};
-use crate::place::{Place, locate};
+use crate::place::{ZoneNet, locate};
 use echo_addr::Address;
 use std::alloc::Global;
 
 #[derive(Drop)]
-pub(crate) struct Reading {
+pub(crate) struct LocatedLines {
     pub(crate) lines: Vec<Line>,
     pub(crate) addresses: Vec<Option<Address>>,
-    place: Option<Place>,
+    place: Option<ZoneNet>,
 }
 
-impl Reading {
+impl LocatedLines {
     fn push(&mut self, number: usize, line: Line) -> Result<(), NodeFault>
         requires { IsInStep self.old }
         ensures step { OnOk result (IsInStep self.new) }
@@ -31,10 +31,10 @@ impl Reading {
     }
 }
 
-pub(crate) fn read_lines(alloc: Global, text: &[u8]) -> Result<Reading, NodeFault>
+pub(crate) fn read_lines(alloc: Global, text: &[u8]) -> Result<LocatedLines, NodeFault>
     ensures { ReadsLines (lines_of text.now) result }
 {
-    let mut reading = Reading {
+    let mut reading = LocatedLines {
         lines: Vec::new(alloc),
         addresses: Vec::new(alloc),
         place: None,

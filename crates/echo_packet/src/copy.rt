@@ -35,7 +35,7 @@ impl PackedCopy {
     }
 
     /// The message for the system of this node and net. Takes no memory.
-    pub fn copy_for(&self, dest_node: u16, dest_net: u16) -> Result<PackedCopy, AllocError>
+    pub fn readdressed_copy(&self, dest_node: u16, dest_net: u16) -> Result<PackedCopy, AllocError>
         ensures { IfOk result (λ copy. copy ≡ readdressed self.now dest_node dest_net) }
     {
         Ok(PackedCopy {

@@ -11,6 +11,6 @@ mod stored;
 pub use laws::written_message_read_back;
 pub use origin::origin_address;
 pub use reading::{
-    StoredDraft, StoredFault, behind_mark, body_of, first_after, is_seen, read_stored,
+    StoredDraft, StoredFault, behind_mark, extract_body, first_value, is_seen, read_stored,
 };
 pub use stored::{address_in_origin, push_bytes, push_stored, written_text};

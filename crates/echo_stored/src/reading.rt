@@ -46,7 +46,7 @@ pub fn read_stored<'a>(alloc: Global, bytes: &'a [u8]) -> Result<StoredDraft<'a>
         return Err(StoredFault::BadMessage);
     }
     let text = text_in(bytes);
-    let body = Items::new(body_of(alloc, text)?);
+    let body = Items::new(extract_body(alloc, text)?);
     Ok(StoredDraft {
         from_name: field_at(bytes, 0, 36),
         to_name: field_at(bytes, 36, 36),
@@ -112,7 +112,7 @@ fn filled_len(bytes: &[u8]) -> usize
 }
 
 /// The lines of the text, except those that posting or a scan makes. Each ends in 0D.
-pub fn body_of(alloc: Global, text: &[u8]) -> Result<Vec<u8>, AllocError>
+pub fn extract_body(alloc: Global, text: &[u8]) -> Result<Vec<u8>, AllocError>
     ensures { IfOk result (λ body. body.items ≡ body_of text.now) }
 {
     let mut body = Vec::new(alloc);
@@ -158,7 +158,7 @@ fn is_origin(line: &[u8]) -> bool
     begins(b" * Origin: ", line)
 }
 
-/// The bytes after the 01 of a control line.
+/// The bytes after the 01 of a kludge line.
 pub fn behind_mark(line: &[u8]) -> &[u8]
     requires { is_control line.now ≡ true }
     ensures { result.now ≡ drop 1 (after_feeds line.now) }
@@ -179,14 +179,14 @@ pub fn is_seen(line: &[u8]) -> bool
 fn reply_in(text: &[u8]) -> &[u8]
     ensures { result.now ≡ reply_in text.now }
 {
-    match first_after(b"\x01REPLY:", text) {
+    match first_value(b"\x01REPLY:", text) {
         Some(id) => id,
         None => &[],
     }
 }
 
 /// The value of the first line that begins with the word and has more than blanks behind it.
-pub fn first_after<'a>(word: &[u8], text: &'a [u8]) -> Option<&'a [u8]>
+pub fn first_value<'a>(word: &[u8], text: &'a [u8]) -> Option<&'a [u8]>
     ensures { option_copied result ≡ first_after word.now (lines text.now) }
 {
     let mut rest = text;

@@ -1,4 +1,4 @@
--- The longest ending of lines that is made of control lines.
+-- The longest ending of lines that is made of kludge lines.
 use Rattle.std.proofs.Common.{◌≡◌, ℕ, ◌&&◌, Bool, cond, true, false, List, [], ◌∷◌, ◌++◌, refl, sym, ap, ◌∙◌, inl, inr}
 use Rattle.std.proofs.lemmas.Bool.{and_cases, and_left, and_right, cond-false, cond-true, cond_both}
 use Rattle.std.specs.List.{list_all}

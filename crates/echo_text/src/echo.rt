@@ -5,7 +5,7 @@ use std::alloc::Global;
 use std::marker::Model;
 
 /// A parsed echomail text (FTS-0004). The tag has 1 to 60 bytes from `!` to `~` without small letters. No kept line
-/// has 00 or 0D; the control lines at their end are no SEEN-BY, PATH or blank lines. `seen` ascends without repeats;
+/// has 00 or 0D; the kludge lines at their end are no SEEN-BY, PATH or blank lines. `seen` ascends without repeats;
 /// `path` has its entries in order, with repeats.
 #[derive(Debug, Drop, PartialEq, Eq, Hash)]
 pub struct Echo {

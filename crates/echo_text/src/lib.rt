@@ -30,7 +30,7 @@ pub use laws::{
     written_text_is_read, written_text_read_back,
 };
 pub use lines::{push_line, push_lines, split_line};
-pub use msgid::{MsgId, serial_of};
-pub use reading::{read_text, read_text_into, view_front, view_text};
+pub use msgid::{MsgId, parse_hex};
+pub use reading::{read_into_room, read_text, view_front, view_text};
 pub use words::{after_feeds, after_word, begins, is_control, is_tear, trimmed};
-pub use writing::{write_parts, write_text, write_text_into};
+pub use writing::{overwrite_text, write_parts, write_text};

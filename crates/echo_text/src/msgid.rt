@@ -65,7 +65,7 @@ fn parts_of(id: &[u8]) -> Option<MsgId>
     if spelled.len() == front.len() {
         return None;
     }
-    let serial = serial_of(digits)?;
+    let serial = parse_hex(digits)?;
     let (origin, quoted) = spelled_origin(spelled)?;
     Some(MsgId {
         origin,
@@ -95,7 +95,7 @@ fn gap_len(front: &[u8]) -> usize
 }
 
 /// The number that at most eight digits to the base 16 write, in either case.
-pub fn serial_of(digits: &[u8]) -> Option<u32>
+pub fn parse_hex(digits: &[u8]) -> Option<u32>
     requires { length digits.now ≤ 8 }
     ensures { MatchOption result (list_all is_hex_digit digits.now ≡ false) (λ n. AllDigits 16 digits.now × (digits_value 16 digits.now ≡ n)) }
 {

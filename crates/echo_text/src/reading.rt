@@ -34,11 +34,11 @@ pub fn read_text(alloc: Global, text: &[u8]) -> Result<(Echo, usize), TextFault>
     requires { HasNoZero text.now }
     ensures { TextAnswers text.now result }
 {
-    read_text_into(EchoRoom::new(alloc), text)
+    read_into_room(EchoRoom::new(alloc), text)
 }
 
 /// Reads the text into the vectors of the room. Their content makes no difference.
-pub fn read_text_into(room: EchoRoom, text: &[u8]) -> Result<(Echo, usize), TextFault>
+pub fn read_into_room(room: EchoRoom, text: &[u8]) -> Result<(Echo, usize), TextFault>
     requires { HasNoZero text.now }
     ensures { TextAnswers text.now result }
 {

@@ -53,7 +53,7 @@ pub fn after_word<'a>(word: &[u8], line: &'a [u8]) -> Option<&'a [u8]>
     }
 }
 
-/// Whether the line is a control line: it begins with 01, after line feeds.
+/// Whether the line is a kludge line: it begins with 01, after line feeds.
 pub fn is_control(line: &[u8]) -> bool
     ensures { result ≡ is_control line.now }
 {

@@ -14,12 +14,12 @@ pub fn write_text(alloc: Global, echo: &Echo) -> Result<Vec<u8>, AllocError>
     ensures { IfOk result (λ text. TextOf echo.now text.items) }
 {
     let mut text = Vec::new(alloc);
-    write_text_into(&mut text, echo)?;
+    overwrite_text(&mut text, echo)?;
     Ok(text)
 }
 
 /// Writes the text into a vector, and replaces the old content.
-pub fn write_text_into(text: &mut Vec<u8>, echo: &Echo) -> Result<(), AllocError>
+pub fn overwrite_text(text: &mut Vec<u8>, echo: &Echo) -> Result<(), AllocError>
     ensures { OnOk result (TextOf echo.now text.new.items) }
 {
     let tag = echo.tag.as_slice();

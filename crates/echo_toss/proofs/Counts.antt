@@ -10,7 +10,7 @@ use Rattle.echo_filed.specs.{Filed.Filed, Sets.address_before, Sets.address_set}
 use Rattle.echo_filed.proofs.{Sets.Ascending, Sets.same_set, Sets.set_ascending, Sets.set_keeps, Sets.set_only, Choices.IsIn, Orders.address_order}
 use Rattle.model_steps.specs.{declared.stamp.Stamp.Stamp, Scanning.header_to, Scanning.scanned, Scanning.targets}
 use Rattle.model_steps.proofs.Encoding.{header_size, packet_size}
-use Rattle.echo_toss.specs.{Counts.copies_out, Counts.counted_to, Counts.counted_with, Counts.counted_of, Counts.has_messages, Counts.link_set, declared.counting.CountedPacket.CountedPacket, Exports.Outgoing, Exports.copy_out, Exports.goes_out, Exports.outgoing_of, Exports.packet_out, Exports.sent_of}
+use Rattle.echo_toss.specs.{Counts.copies_out, Counts.counted_to, Counts.counted_with, Counts.counted_of, Counts.has_messages, Counts.link_set, declared.counting.CountedPacket.CountedPacket, Exports.OutgoingMessage, Exports.copy_out, Exports.goes_out, Exports.outgoing_of, Exports.packet_out, Exports.sent_of}
 use Rattle.echo_toss.proofs.{AscendingSets.in_back, AscendingSets.in_either, AscendingSets.in_front, Exports.kept_targets, Exports.scan_made, Searches.found_in, Searches.in_found}
 
 -- ---- group after group
@@ -19,20 +19,20 @@ pub messages_append : (one other : List Message) → messages_bytes (one ++ othe
 messages_append [] other = refl
 messages_append (m ∷ one) other = ap (λ l. message_bytes m ++ l) (messages_append one other) ∙ sym (append_assoc (message_bytes m) (messages_bytes one) (messages_bytes other))
 
-pub copies_append : (a : Address) (one other : List Outgoing) → copies_out a (one ++ other) ≡ copies_out a one ++ copies_out a other
+pub copies_append : (a : Address) (one other : List OutgoingMessage) → copies_out a (one ++ other) ≡ copies_out a one ++ copies_out a other
 copies_append a one other = ap (map (copy_out a)) (filter-append (goes_out a) one other) ∙ map-append (copy_out a) (filter (goes_out a) one) (filter (goes_out a) other)
 
-pub more_twice : (p : CountedPacket) (one other : List Outgoing) → counted_with other (counted_with one p) ≡ counted_with (one ++ other) p
+pub more_twice : (p : CountedPacket) (one other : List OutgoingMessage) → counted_with other (counted_with one p) ≡ counted_with (one ++ other) p
 more_twice p one other = grind (arith, copies_append, length-append, messages_append)
 
-pub more_in : (sent more : List Outgoing) (a : Address) → counted_with more (counted_to sent a) ≡ counted_to (sent ++ more) a
+pub more_in : (sent more : List OutgoingMessage) (a : Address) → counted_with more (counted_to sent a) ≡ counted_to (sent ++ more) a
 more_in sent more a = grind (arith, copies_append, length-append, messages_append)
 
-pub group_counted : (sent more : List Outgoing) (all : List Address) → map (counted_with more) (map (counted_to sent) all) ≡ map (counted_to (sent ++ more)) all
+pub group_counted : (sent more : List OutgoingMessage) (all : List Address) → map (counted_with more) (map (counted_to sent) all) ≡ map (counted_to (sent ++ more)) all
 group_counted sent more [] = refl
 group_counted sent more (a ∷ all) = let one = more_in sent more a in let rest = group_counted sent more all in λ i. one i ∷ rest i
 
-pub has_later : (sent more : List Outgoing) (a : Address) → has_messages (counted_to sent a) ≡ true → has_messages (counted_to (sent ++ more) a) ≡ true
+pub has_later : (sent more : List OutgoingMessage) (a : Address) → has_messages (counted_to sent a) ≡ true → has_messages (counted_to (sent ++ more) a) ≡ true
 has_later sent more a has = grind (arith, copies_append, length-append, lt-ltb, ltb-true)
 
 -- ---- areas by their number
@@ -107,13 +107,13 @@ filter_map p f (x ∷ xs) = elim (cases_Bool (p (f x))) [
 
 -- ---- who gets some
 
-abbrev gets : List Outgoing → Address → Bool
+abbrev gets : List OutgoingMessage → Address → Bool
 gets sent a = has_messages (counted_to sent a)
 
-one_copy : (a : Address) (o : Outgoing) (sent : List Outgoing) → goes_out a o ≡ true → copies_out a (o ∷ sent) ≡ copy_out a o ∷ copies_out a sent
+one_copy : (a : Address) (o : OutgoingMessage) (sent : List OutgoingMessage) → goes_out a o ≡ true → copies_out a (o ∷ sent) ≡ copy_out a o ∷ copies_out a sent
 one_copy a o sent goes = ap (map (copy_out a)) (cond-true (goes_out a o) (o ∷ filter (goes_out a) sent) (filter (goes_out a) sent) goes)
 
-no_copy : (a : Address) (o : Outgoing) (sent : List Outgoing) → goes_out a o ≡ false → copies_out a (o ∷ sent) ≡ copies_out a sent
+no_copy : (a : Address) (o : OutgoingMessage) (sent : List OutgoingMessage) → goes_out a o ≡ false → copies_out a (o ∷ sent) ≡ copies_out a sent
 no_copy a o sent stays = ap (map (copy_out a)) (cond-false (goes_out a o) (o ∷ filter (goes_out a) sent) (filter (goes_out a) sent) stays)
 
 same_size : (m : Message) (node net : ℕ) → length (message_bytes (readdressed m node net)) ≡ length (message_bytes m)
@@ -123,14 +123,14 @@ same_size m node net = refl
 pub sum_is : (r : Option ℕ) (P : Type 0) (v x : ℕ) → SomeIff r P v → r ≡ Some x → x ≡ v
 sum_is r P v x given is = (subst (λ (o : Option ℕ). SomeIff o P v) is given).1
 
-pub one_counted : (p : CountedPacket) (o : Outgoing) (count size n : ℕ) → goes_out p.to o ≡ true → count ≡ p.messages + 1 → n ≡ length (message_bytes o.message) → size ≡ p.bytes + n
+pub one_counted : (p : CountedPacket) (o : OutgoingMessage) (count size n : ℕ) → goes_out p.to o ≡ true → count ≡ p.messages + 1 → n ≡ length (message_bytes o.message) → size ≡ p.bytes + n
     → record { to = p.to; messages = count; bytes = size } ≡ counted_with (o ∷ []) p
 one_counted p o count size n goes counted long sum = grind (arith, one_copy, append-nil, same_size)
 
-abbrev all_targets : List Outgoing → List Address
+abbrev all_targets : List OutgoingMessage → List Address
 all_targets sent = flat_map (λ o. o.targets) sent
 
-gets_some : (a : Address) (sent : List Outgoing) → IsIn a (all_targets sent) → gets sent a ≡ true
+gets_some : (a : Address) (sent : List OutgoingMessage) → IsIn a (all_targets sent) → gets sent a ≡ true
 gets_some a [] h = absurd h
 gets_some a (o ∷ sent) h = elim (cases_Bool (goes_out a o)) [
   | inl goes ↦ grind (arith, lt-ltb, one_copy)
@@ -139,14 +139,14 @@ gets_some a (o ∷ sent) h = elim (cases_Bool (goes_out a o)) [
       ∙ gets_some a sent (⊎_elim (λ here. absurd (true≢false (sym (in_found a o.targets here) ∙ stays))) (λ later. later) (in_either a o.targets (all_targets sent) h))
 ]
 
-some_gets : (a : Address) (sent : List Outgoing) → gets sent a ≡ true → IsIn a (all_targets sent)
+some_gets : (a : Address) (sent : List OutgoingMessage) → gets sent a ≡ true → IsIn a (all_targets sent)
 some_gets a [] h = absurd (true≢false (sym h))
 some_gets a (o ∷ sent) h = elim (cases_Bool (goes_out a o)) [
   | inl goes ↦ in_front a o.targets (all_targets sent) (found_in a o.targets goes)
   | inr stays ↦ in_back a o.targets (all_targets sent) (some_gets a sent (sym (ap (λ (l : List Message). nat_lt 0 (length l)) (no_copy a o sent stays)) ∙ h))
 ]
 
-those_that_get : (sent : List Outgoing) (all : List Address) → ((x : Address) → IsIn x (all_targets sent) → IsIn x (address_set all))
+those_that_get : (sent : List OutgoingMessage) (all : List Address) → ((x : Address) → IsIn x (all_targets sent) → IsIn x (address_set all))
     → filter (gets sent) (address_set all) ≡ address_set (all_targets sent)
 unfolding address_set
 those_that_get sent all inside =
@@ -182,19 +182,19 @@ targets_linked file (m ∷ ms) x h =
 
 -- ---- the packets
 
-out_counted : (file : LinkFile) (stamp : Stamp) (sent : List Outgoing) (a : Address) → counted_of (packet_out file stamp sent a) ≡ counted_to sent a
+out_counted : (file : LinkFile) (stamp : Stamp) (sent : List OutgoingMessage) (a : Address) → counted_of (packet_out file stamp sent a) ≡ counted_to sent a
 unfolding header_to
 out_counted file stamp sent a = grind (arith, packet_size, header_size)
 
-outs_counted : (file : LinkFile) (stamp : Stamp) (sent : List Outgoing) (all : List Address) → map counted_of (map (packet_out file stamp sent) all) ≡ map (counted_to sent) all
+outs_counted : (file : LinkFile) (stamp : Stamp) (sent : List OutgoingMessage) (all : List Address) → map counted_of (map (packet_out file stamp sent) all) ≡ map (counted_to sent) all
 outs_counted file stamp sent [] = refl
 outs_counted file stamp sent (a ∷ all) = let one = out_counted file stamp sent a in let rest = outs_counted file stamp sent all in λ i. one i ∷ rest i
 
-pub scanned_to : (file : LinkFile) (messages : List Filed) (cursor : ℕ) (sent : List Outgoing) → sent ≡ sent_of file (drop cursor messages) → (stamp : Stamp)
+pub scanned_to : (file : LinkFile) (messages : List Filed) (cursor : ℕ) (sent : List OutgoingMessage) → sent ≡ sent_of file (drop cursor messages) → (stamp : Stamp)
     → map (packet_out file stamp sent) (filter (λ a. has_messages (counted_to sent a)) (link_set file)) ≡ scanned file messages cursor stamp
 scanned_to file messages cursor sent is stamp = grind (arith, IsIn, targets_linked, kept_targets, those_that_get, scan_made)
 
-pub all_counted : (file : LinkFile) (messages : List Filed) (cursor : ℕ) (sent : List Outgoing) (packets : List CountedPacket) → sent ≡ sent_of file (drop cursor messages)
+pub all_counted : (file : LinkFile) (messages : List Filed) (cursor : ℕ) (sent : List OutgoingMessage) (packets : List CountedPacket) → sent ≡ sent_of file (drop cursor messages)
     → packets ≡ map (counted_to sent) (link_set file) → (stamp : Stamp) → filter has_messages packets ≡ map counted_of (scanned file messages cursor stamp)
 all_counted file messages cursor sent packets is all stamp =
     ap (filter has_messages) all ∙ filter_map has_messages (counted_to sent) (link_set file)

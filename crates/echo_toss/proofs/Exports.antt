@@ -12,7 +12,7 @@ use Rattle.model_steps.proofs.Copies.{exported_is_echo}
 use Rattle.echo_links.specs.Links.{IsFile, LinkFile, links_of}
 use Rattle.model_steps.specs.Scanning.{copy_to, exported, goes_to, header_to, packet_to, packets_of, recipients, scanned, targets}
 use Rattle.model_steps.specs.declared.{stamp.Stamp.Stamp, packet.Packet.Packet}
-use Rattle.echo_toss.specs.Exports.{Outgoing, copy_out, goes_out, has_some, is_sent, outgoing_of, packet_out, packets_out, sent_of}
+use Rattle.echo_toss.specs.Exports.{OutgoingMessage, copy_out, goes_out, has_some, is_sent, outgoing_of, packet_out, packets_out, sent_of}
 use Rattle.echo_toss.proofs.{AscendingSets.set_twice, AscendingSets.sets_together, Searches.among_set}
 
 filter_front : {X : Type 0} (p : X → Bool) (x : X) (xs : List X) → filter p (x ∷ xs) ≡ filter p (x ∷ []) ++ filter p xs
@@ -52,25 +52,25 @@ no_targets : (l : List Address) → has_some l ≡ false → l ≡ []
 no_targets [] lacks = refl
 no_targets (a ∷ more) lacks = absurd (true≢false lacks)
 
-pub kept_targets : (all : List Outgoing) → flat_map (λ o. o.targets) (filter is_sent all) ≡ flat_map (λ o. o.targets) all
+pub kept_targets : (all : List OutgoingMessage) → flat_map (λ o. o.targets) (filter is_sent all) ≡ flat_map (λ o. o.targets) all
 kept_targets [] = refl
 kept_targets (o ∷ all) = grind (arith, cases_Bool, cond-true, cond-false, no_targets, kept_targets all)
 
-one_more_copy : (a : Address) (o : Outgoing) (all fewer : List Outgoing) → map (copy_out a) (filter (goes_out a) fewer) ≡ map (copy_out a) (filter (goes_out a) all)
+one_more_copy : (a : Address) (o : OutgoingMessage) (all fewer : List OutgoingMessage) → map (copy_out a) (filter (goes_out a) fewer) ≡ map (copy_out a) (filter (goes_out a) all)
     → map (copy_out a) (filter (goes_out a) (o ∷ fewer)) ≡ map (copy_out a) (filter (goes_out a) (o ∷ all))
 one_more_copy a o all fewer same = grind (arith, cases_Bool, cond-true, cond-false)
 
-kept_copies : (a : Address) (all : List Outgoing) → map (copy_out a) (filter (goes_out a) (filter is_sent all)) ≡ map (copy_out a) (filter (goes_out a) all)
+kept_copies : (a : Address) (all : List OutgoingMessage) → map (copy_out a) (filter (goes_out a) (filter is_sent all)) ≡ map (copy_out a) (filter (goes_out a) all)
 kept_copies a [] = refl
 kept_copies a (o ∷ all) = grind (arith, cases_Bool, cond-true, one_more_copy, no_targets, cond-false, kept_copies a all)
 
-kept_packet : (file : LinkFile) (stamp : Stamp) (all : List Outgoing) (a : Address) → packet_out file stamp (filter is_sent all) a ≡ packet_out file stamp all a
+kept_packet : (file : LinkFile) (stamp : Stamp) (all : List OutgoingMessage) (a : Address) → packet_out file stamp (filter is_sent all) a ≡ packet_out file stamp all a
 kept_packet file stamp all a = let e = kept_copies a all in λ i. record { header = header_to file stamp a; messages = e i }
 
-kept_packets : (file : LinkFile) (stamp : Stamp) (all : List Outgoing) → packets_out file stamp (filter is_sent all) ≡ packets_out file stamp all
+kept_packets : (file : LinkFile) (stamp : Stamp) (all : List OutgoingMessage) → packets_out file stamp (filter is_sent all) ≡ packets_out file stamp all
 kept_packets file stamp all = grind (arith, kept_targets, kept_packet)
 
-pub scan_made : (file : LinkFile) (stamp : Stamp) (base : List Filed) (cursor : ℕ) (packets : List Packet) (all : List Outgoing)
+pub scan_made : (file : LinkFile) (stamp : Stamp) (base : List Filed) (cursor : ℕ) (packets : List Packet) (all : List OutgoingMessage)
     → all ≡ sent_of file (drop cursor base) → packets ≡ packets_out file stamp all → packets ≡ scanned file base cursor stamp
 scan_made file stamp base cursor packets all e h =
     h ∙ ap (packets_out file stamp) e ∙ kept_packets file stamp (map (outgoing_of file) (drop cursor base)) ∙ packets_are file stamp base cursor
@@ -95,7 +95,7 @@ exported_no_zero file is e h =
     let out = exported_is_echo file is e h in
     written_has_no_zero (exported file e) (text_of (exported file e)) out (text_is_text (exported file e) out)
 
-pub out_packets : {E : Type 0} (r : Result (Vec Packet Global) E) (file : LinkFile) (stamp : Stamp) (all : List Outgoing) (recipients : List Address)
+pub out_packets : {E : Type 0} (r : Result (Vec Packet Global) E) (file : LinkFile) (stamp : Stamp) (all : List OutgoingMessage) (recipients : List Address)
     → recipients ≡ address_set (flat_map (λ o. o.targets) all) → IfOk r (λ v. v.items ≡ map (packet_out file stamp all) recipients)
     → IfOk r (λ v. v.items ≡ packets_out file stamp all)
 out_packets (Ok v) file stamp all recipients f h = h ∙ ap (map (packet_out file stamp all)) f

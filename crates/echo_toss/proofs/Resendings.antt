@@ -7,7 +7,7 @@ use Rattle.echo_packet.specs.Message.{Message}
 use Rattle.echo_links.specs.Links.{LinkFile}
 use Rattle.echo_filed.specs.Filed.{Filed}
 use Rattle.model_steps.specs.{Resending.is_resent, Resending.is_whole_in, Scanning.copy_to, Scanning.goes_to}
-use Rattle.echo_toss.specs.Exports.{IsResentAt, Outgoing, copy_out, goes_out, outgoing_of}
+use Rattle.echo_toss.specs.Exports.{IsResentAt, OutgoingMessage, copy_out, goes_out, outgoing_of}
 use Rattle.echo_toss.proofs.Exports.{same_copies}
 
 abbrev pub copies_of : LinkFile → List ℕ → Address → List Filed → List Message
@@ -31,11 +31,11 @@ next_resent file area to messages cursor i end old new all bound within (m, here
     rw add-one
     (grind (arith, append_assoc))
 
-pub whole : (file : LinkFile) (area : List ℕ) (to : Address) (m : Filed) (one : Outgoing) (old new : List Message) → is_whole_in area m ≡ true
+pub whole : (file : LinkFile) (area : List ℕ) (to : Address) (m : Filed) (one : OutgoingMessage) (old new : List Message) → is_whole_in area m ≡ true
     → one ≡ outgoing_of file m → new ≡ old ++ map (copy_out to) (filter (goes_out to) (one ∷ []))
     → new ≡ old ++ copies_of file area to (m ∷ [])
 whole file area to m one old new asked is out =
     out
-    ∙ (ap (λ (o : Outgoing). old ++ map (copy_out to) (filter (goes_out to) (o ∷ []))) is
+    ∙ (ap (λ (o : OutgoingMessage). old ++ map (copy_out to) (filter (goes_out to) (o ∷ []))) is
     ∙ (ap (λ (l : List Message). old ++ l) (same_copies file to (m ∷ []))
     ∙ ap (λ (b : Bool). old ++ map (copy_to file to) (cond (b && goes_to file to m) (m ∷ []) [])) (sym asked)))

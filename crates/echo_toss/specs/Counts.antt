@@ -6,18 +6,18 @@ use Rattle.echo_packet.specs.{Message.Message, Message.messages_bytes, Packet.pa
 use Rattle.echo_links.specs.Links.{LinkFile, links_of}
 use Rattle.echo_filed.specs.{Filed.Filed, Sets.address_set}
 use Rattle.model_steps.specs.{declared.packet.Packet.Packet, declared.stamp.Stamp.Stamp, Scanning.header_to}
-use Rattle.echo_toss.specs.{Exports.Outgoing, Exports.copy_out, Exports.goes_out, Exports.sent_of, declared.counting.CountedPacket.CountedPacket}
+use Rattle.echo_toss.specs.{Exports.OutgoingMessage, Exports.copy_out, Exports.goes_out, Exports.sent_of, declared.counting.CountedPacket.CountedPacket}
 
 -- Outgoing messages in order, and the number of the first message after them.
 pub record Group : Type 0 where
-  pub sent : List Outgoing
+  pub sent : List OutgoingMessage
   pub next : ℕ
 
 -- The group has the outgoing forms of the messages from a number on, up to its end.
 abbrev pub IsGroupFrom : LinkFile → List Filed → ℕ → Group → Type 0
 IsGroupFrom file messages from group = group.sent ++ sent_of file (drop group.next messages) ≡ sent_of file (drop from messages)
 
-abbrev pub copies_out : Address → List Outgoing → List Message
+abbrev pub copies_out : Address → List OutgoingMessage → List Message
 copies_out address sent = map (copy_out address) (filter (goes_out address) sent)
 
 -- The bytes of the packet for an address, with the messages from a number on.
@@ -37,10 +37,10 @@ counted_of p = record {
 }
 
 -- The packet of outgoing messages to an address, counted.
-abbrev pub counted_to : List Outgoing → Address → CountedPacket
+abbrev pub counted_to : List OutgoingMessage → Address → CountedPacket
 counted_to sent address = record { to = address; messages = length (copies_out address sent); bytes = 60 + length (messages_bytes (copies_out address sent)) }
 
-abbrev pub counted_with : List Outgoing → CountedPacket → CountedPacket
+abbrev pub counted_with : List OutgoingMessage → CountedPacket → CountedPacket
 counted_with sent packet = record {
   to = packet.to;
   messages = packet.messages + length (copies_out packet.to sent);

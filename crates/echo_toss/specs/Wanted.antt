@@ -6,7 +6,7 @@ use Rattle.echo_text.specs.Echo.{FrontOf}
 use Rattle.echo_links.specs.Links.{LinkFile, has_area, is_link}
 use Rattle.echo_filed.specs.{Filed.Filed, Filed.key_of, declared.key.Key.Key}
 use Rattle.base_file.specs.Base.{is_known}
-use Rattle.echo_toss.specs.declared.{tossing.Verdict.Verdict, tossing.Verdict.TheVariants.Left, tossing.Verdict.TheVariants.New, receiving.Reading.Reading, receiving.Reading.TheVariants.Unwanted, receiving.Reading.TheVariants.Wanted}
+use Rattle.echo_toss.specs.declared.{tossing.Decision.Decision, tossing.Decision.TheVariants.Left, tossing.Decision.TheVariants.New, receiving.Reading.Reading, receiving.Reading.TheVariants.Unwanted, receiving.Reading.TheVariants.Wanted}
 use Rattle.model_steps.specs.{declared.outcome.Outcome.Outcome, Tossing.toss_outcome, Tossing.tossing}
 use Rattle.model_steps.specs.declared.outcome.Outcome.TheVariants as outcome
 
@@ -38,11 +38,11 @@ pub record IsNew (file : LinkFile) (base : List Filed) (sender : Address) (packe
   pub own_key : key ≡ key_of m
   pub new : is_known base key ≡ false
 
-abbrev pub IsVerdict : LinkFile → List Filed → Address → Message → Verdict → Type 0
+abbrev pub IsVerdict : LinkFile → List Filed → Address → Message → Decision → Type 0
 IsVerdict file base sender packed (New key m) = IsNew file base sender packed key m
 IsVerdict file base sender packed (Left answer) = (answer ≡ toss_outcome file base sender packed) × (None ≡ tossing file base sender packed)
 
 -- A message to file has its own key.
-abbrev pub HasOwnKey : Verdict → Type 0
+abbrev pub HasOwnKey : Decision → Type 0
 HasOwnKey (New key m) = key ≡ key_of m
 HasOwnKey (Left answer) = Unit {0}

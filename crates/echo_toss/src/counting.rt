@@ -7,8 +7,8 @@ ghost use Rattle.echo_links.specs.Links.{Area, links_of};
 ghost use Rattle.model_steps.specs.Scanning.{scanned};
 ghost use Rattle.echo_toss.specs.{Counts.counted_to, Counts.counted_with, Counts.counted_of, Counts.has_messages, Counts.link_set, Bounds.IsFullWhenRead};
 
-use crate::grouping::{Group, group_from};
-use crate::outgoing::{Outgoing, links_of};
+use crate::grouping::{Group, gather_group};
+use crate::outgoing::{OutgoingMessage, links_of};
 use crate::packing::goes_to;
 use crate::sets::address_set;
 use base_store::{Store, StoreError};
@@ -47,7 +47,7 @@ impl CountedPacket {
 
 /// Counts the packets of the messages from this number on: one for each address that gets some of them, ascending.
 /// The store is only looked at. It holds a group of messages at a time.
-pub fn counted_from<T: Store>(
+pub fn count_packets<T: Store>(
     alloc: Global,
     links: &LinkFile,
     store: &mut T,
@@ -65,7 +65,7 @@ pub fn counted_from<T: Store>(
     let end = store.len();
     let mut at = from;
     'groups: while at < end {
-        let group = group_from(alloc, links, store, at, end)?;
+        let group = gather_group(alloc, links, store, at, end)?;
         let more = count_group(alloc, &counts, group.sent())?;
         counts = more;
         at = group.next();
@@ -109,7 +109,7 @@ fn none_counted(alloc: Global, addresses: &[Address]) -> Result<Vec<CountedPacke
 fn count_group(
     alloc: Global,
     packets: &[CountedPacket],
-    sent: &[Outgoing],
+    sent: &[OutgoingMessage],
 ) -> Result<Vec<CountedPacket>, AllocError>
     ensures { IfOk result (λ all. all.items ≡ map (counted_with sent.now) packets.now) }
 {
@@ -120,7 +120,10 @@ fn count_group(
     Ok(all)
 }
 
-fn count_copies(packet: CountedPacket, sent: &[Outgoing]) -> Result<CountedPacket, AllocError>
+fn count_copies(
+    packet: CountedPacket,
+    sent: &[OutgoingMessage],
+) -> Result<CountedPacket, AllocError>
     ensures { IfOk result (λ more. more ≡ counted_with sent.now packet) }
 {
     let mut more = packet;
@@ -131,7 +134,7 @@ fn count_copies(packet: CountedPacket, sent: &[Outgoing]) -> Result<CountedPacke
 }
 
 // A packet of more than `usize::MAX` bytes counts as out of memory.
-fn count_copy(packet: CountedPacket, one: &Outgoing) -> Result<CountedPacket, AllocError>
+fn count_copy(packet: CountedPacket, one: &OutgoingMessage) -> Result<CountedPacket, AllocError>
     ensures { IfOk result (λ more. more ≡ counted_with (one.now ∷ []) packet) }
 {
     if !goes_to(one, packet.to) {

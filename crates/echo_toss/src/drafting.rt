@@ -9,7 +9,7 @@ use echo_addr::Items;
 use echo_filed::Filed;
 use echo_links::LinkFile;
 use echo_text::{Echo, Lines, MsgId, push_line, push_lines, trimmed};
-use model_steps::{Draft, Stamp, date_of};
+use model_steps::{Draft, Stamp, date_time};
 use std::alloc::{AllocError, Global};
 
 pub(crate) fn posted(
@@ -38,7 +38,7 @@ pub(crate) fn posted(
     };
     Ok(Filed {
         sender: None,
-        date: date_of(stamp),
+        date: date_time(stamp),
         to_name,
         from_name,
         subject,

@@ -6,7 +6,7 @@ ghost use Rattle.base_store.specs.Store.{HasStoreCause, LooksOn};
 ghost use Rattle.echo_packet.specs.Message.{messages_bytes};
 ghost use Rattle.echo_toss.specs.{Bounds.IsFullWhenRead, Counts.IsGroupFrom, Counts.copies_out};
 
-use crate::outgoing::{Outgoing, push_message};
+use crate::outgoing::{OutgoingMessage, push_message};
 use crate::packing::goes_to;
 use base_store::{Store, StoreError};
 use disk_io::Watched;
@@ -21,7 +21,7 @@ use std::mem;
 /// Outgoing messages in order, and the number of the first message that comes after them.
 #[derive(Drop)]
 pub struct Group {
-    sent: Vec<Outgoing>,
+    sent: Vec<OutgoingMessage>,
     next: usize,
 }
 
@@ -41,7 +41,7 @@ impl Group {
         self.next
     }
 
-    pub(crate) fn sent(&self) -> &[Outgoing]
+    pub(crate) fn sent(&self) -> &[OutgoingMessage]
         ensures { result.now ≡ self.now.sent }
     {
         self.sent.as_slice()
@@ -53,7 +53,7 @@ const MANY_BYTES: usize = 524_288;
 
 /// The outgoing messages from this number on, in order. The group ends before `end`, or once its texts have many
 /// bytes.
-pub fn group_from<T: Store>(
+pub fn gather_group<T: Store>(
     alloc: Global,
     links: &LinkFile,
     store: &mut T,
@@ -83,7 +83,7 @@ pub fn group_from<T: Store>(
     Ok(Group { sent, next: at })
 }
 
-fn last_text(sent: &[Outgoing]) -> usize {
+fn last_text(sent: &[OutgoingMessage]) -> usize {
     match sent {
         [.., last] => last.message.message().text().len(),
         [] => 0,
@@ -91,7 +91,7 @@ fn last_text(sent: &[Outgoing]) -> usize {
 }
 
 /// The bytes that a packet for the address has of the group: its copies, in order.
-pub fn copies_in(alloc: Global, group: &Group, address: Address) -> Result<Vec<u8>, AllocError>
+pub fn group_copies(alloc: Global, group: &Group, address: Address) -> Result<Vec<u8>, AllocError>
     ensures { IfOk result (λ bytes. bytes.items ≡ messages_bytes (copies_out address group.now.sent)) }
 {
     let mut bytes = Vec::with_capacity(alloc, copies_len(group.sent(), address))?;
@@ -101,7 +101,7 @@ pub fn copies_in(alloc: Global, group: &Group, address: Address) -> Result<Vec<u
     Ok(bytes)
 }
 
-fn copies_len(sent: &[Outgoing], address: Address) -> usize {
+fn copies_len(sent: &[OutgoingMessage], address: Address) -> usize {
     let mut bytes: usize = 0;
     'sent: for one in sent {
         if goes_to(one, address) {
@@ -114,7 +114,7 @@ fn copies_len(sent: &[Outgoing], address: Address) -> usize {
 fn add_copy(
     alloc: Global,
     bytes: &mut Vec<u8>,
-    one: &Outgoing,
+    one: &OutgoingMessage,
     address: Address,
 ) -> Result<(), AllocError>
     ensures { OnOk result (bytes.new.items ≡ bytes.old.items ++ messages_bytes (copies_out address (one.now ∷ []))) }

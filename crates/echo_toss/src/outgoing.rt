@@ -23,17 +23,17 @@ use std::marker::Model;
 
 /// A waiting message in its outgoing form, before it is addressed, which its copies share; and its receivers as a set.
 #[derive(Drop)]
-pub(crate) struct Outgoing {
+pub(crate) struct OutgoingMessage {
     pub(crate) message: PackedCopy,
     pub(crate) targets: Items<Address>,
 }
 
-impl Model for Outgoing {
+impl Model for OutgoingMessage {
     ghost use Rattle.std.specs.Prelude.{◌≡◌};
     ghost use Rattle.echo_filed.specs.Sets.{address_set};
     ghost use Rattle.echo_toss.specs.Exports as model;
 
-    ghost Value = { model.Outgoing };
+    ghost Value = { model.OutgoingMessage };
 
     ghost view = { λ o. record { message = o.message; targets = o.targets } };
 
@@ -45,7 +45,7 @@ pub(crate) fn waiting<T: Store>(
     alloc: Global,
     links: &LinkFile,
     store: &mut T,
-) -> Result<Vec<Outgoing>, StoreError>
+) -> Result<Vec<OutgoingMessage>, StoreError>
     requires { (T.state store.old).is_ready }
     ensures outgoing { Honestly (T.state store.new).disk ((base : Base) → (T.state store.old).keeps base
         → IfOk result (λ all. all.items ≡ sent_of links.now (drop base.cursor base.messages))) }
@@ -68,7 +68,7 @@ pub(crate) fn push_message<T: Store>(
     links: &LinkFile,
     store: &mut T,
     place: usize,
-    all: &mut Vec<Outgoing>,
+    all: &mut Vec<OutgoingMessage>,
 ) -> Result<(), StoreError>
     requires ready { (T.state store.old).is_ready }
     requires within { Honestly (T.state store.old).disk ((base : Base) → (T.state store.old).keeps base → place < length base.messages) }
@@ -89,7 +89,7 @@ pub(crate) fn prepared(
     alloc: Global,
     links: &LinkFile,
     message: &Filed,
-) -> Result<Outgoing, AllocError>
+) -> Result<OutgoingMessage, AllocError>
     ensures { IfOk result (λ o. o ≡ outgoing_of links.now message.now) }
 {
     let receivers = targets(alloc, links, message)?;
@@ -102,12 +102,12 @@ fn prepared_for(
     links: &LinkFile,
     message: &Filed,
     receivers: Items<Address>,
-) -> Result<Outgoing, AllocError>
+) -> Result<OutgoingMessage, AllocError>
     requires { receivers ≡ address_set (targets links.now message.now) }
     ensures { IfOk result (λ o. o ≡ outgoing_of links.now message.now) }
 {
     let one = exported(alloc, links, message)?;
-    Ok(Outgoing {
+    Ok(OutgoingMessage {
         message: PackedCopy::new(alloc, one)?,
         targets: receivers,
     })
@@ -129,7 +129,7 @@ fn push_prepared(
     alloc: Global,
     links: &LinkFile,
     message: &Filed,
-    all: &mut Vec<Outgoing>,
+    all: &mut Vec<OutgoingMessage>,
 ) -> Result<(), AllocError>
     ensures { OnOk result (all.new.items ≡ all.old.items ++ sent_of links.now (message.now ∷ [])) }
 {

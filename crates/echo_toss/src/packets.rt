@@ -23,7 +23,7 @@ use std::hash::BuildHasher;
 /// Tosses the messages of the packet at the front of the reader into the store, in order. Their sender is the origin
 /// in the packet's header; a zone 0 there means the own zone. Nothing is committed. `NotForUs`: the destination is not
 /// the own address. Messages before a fault stay tossed and counted; one at which the store failed does not.
-pub fn toss_packet_in<T: Store, R: Source>(
+pub fn toss_packet<T: Store, R: Source>(
     alloc: Global,
     links: &LinkFile,
     store: &mut T,
@@ -55,12 +55,12 @@ pub fn toss_packet_in<T: Store, R: Source>(
 }
 
 impl<S: BuildHasher> Tosser<S> {
-    /// Tosses as `toss_packet_in`, into the base in memory. A message that was refused memory is not counted.
+    /// Tosses as `toss_packet`, into the base in memory. A message that was refused memory is not counted.
     pub fn toss<R: Source>(&mut self, reader: &mut R, limits: Limits) -> Result<Tally, TossFault>
         ensures tossed { PacketStep limits self.old (R.remaining reader.old) (R.remaining reader.new) result self.new }
         ensures device { CountsToss result (R.failures reader.old) (R.failures reader.new) }
     {
-        match toss_packet_in(self.alloc, &self.links, &mut self.store, reader, limits) {
+        match toss_packet(self.alloc, &self.links, &mut self.store, reader, limits) {
             Ok(tally) => Ok(tally),
             Err(stopped) => Err(fault_in(stopped)),
         }

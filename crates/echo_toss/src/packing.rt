@@ -6,7 +6,7 @@ ghost use Rattle.echo_filed.specs.Sets.{address_set};
 ghost use Rattle.model_steps.specs.{Scanning.header_to, Stamps.is_stamp};
 ghost use Rattle.echo_toss.specs.Exports.{copy_out, goes_out, packet_out, packets_out};
 
-use crate::outgoing::Outgoing;
+use crate::outgoing::OutgoingMessage;
 use crate::sets::address_set;
 use echo_addr::{Address, Items};
 use echo_links::LinkFile;
@@ -19,7 +19,7 @@ pub(crate) fn packets(
     alloc: Global,
     links: &LinkFile,
     stamp: Stamp,
-    outgoing: &[Outgoing],
+    outgoing: &[OutgoingMessage],
 ) -> Result<Vec<Packet>, AllocError>
     requires { is_stamp stamp ≡ true }
     ensures { IfOk result (λ all. all.items ≡ packets_out links.now stamp outgoing.now) }
@@ -31,7 +31,7 @@ pub(crate) fn packets(
 /// How many addresses are gathered before those that repeat are dropped.
 const MANY: usize = 1_024;
 
-fn recipients(alloc: Global, outgoing: &[Outgoing]) -> Result<Vec<Address>, AllocError>
+fn recipients(alloc: Global, outgoing: &[OutgoingMessage]) -> Result<Vec<Address>, AllocError>
     ensures { IfOk result (λ all. all.items ≡ address_set (flat_map (λ o. o.targets) outgoing.now)) }
 {
     let mut all = Vec::new(alloc);
@@ -60,7 +60,7 @@ fn packets_to(
     links: &LinkFile,
     stamp: Stamp,
     recipients: &[Address],
-    outgoing: &[Outgoing],
+    outgoing: &[OutgoingMessage],
 ) -> Result<Vec<Packet>, AllocError>
     requires { is_stamp stamp ≡ true }
     ensures { IfOk result (λ all. all.items ≡ map (packet_out links.now stamp outgoing.now) recipients.now) }
@@ -77,7 +77,7 @@ fn packet_to(
     links: &LinkFile,
     stamp: Stamp,
     address: Address,
-    outgoing: &[Outgoing],
+    outgoing: &[OutgoingMessage],
 ) -> Result<Packet, AllocError>
     requires { is_stamp stamp ≡ true }
     ensures { IfOk result (λ packet. packet ≡ packet_out links.now stamp outgoing.now address) }
@@ -87,25 +87,25 @@ fn packet_to(
         push_copy(address, one, &mut messages)?;
     }
     Ok(Packet {
-        header: header_to(links, stamp, address),
+        header: packet_header(links, stamp, address),
         messages: Items::new(messages),
     })
 }
 
 pub(crate) fn push_copy(
     address: Address,
-    one: &Outgoing,
+    one: &OutgoingMessage,
     messages: &mut Vec<PackedCopy>,
 ) -> Result<(), AllocError>
     ensures { OnOk result (messages.new.items ≡ messages.old.items ++ map (copy_out address) (filter (goes_out address) (one.now ∷ []))) }
 {
     if goes_to(one, address) {
-        messages.push(one.message.copy_for(address.node, address.net)?)?;
+        messages.push(one.message.readdressed_copy(address.node, address.net)?)?;
     }
     Ok(())
 }
 
-pub(crate) fn goes_to(one: &Outgoing, address: Address) -> bool
+pub(crate) fn goes_to(one: &OutgoingMessage, address: Address) -> bool
     ensures { result ≡ goes_out address one.now }
 {
     one.targets.as_slice().binary_search(&address).is_ok()
@@ -113,7 +113,7 @@ pub(crate) fn goes_to(one: &Outgoing, address: Address) -> bool
 
 /// The header of a packet to the address.
 #[tactic(auto, unfolding(model_steps::specs::Scanning::header_to))]
-pub fn header_to(links: &LinkFile, stamp: Stamp, address: Address) -> Header
+pub fn packet_header(links: &LinkFile, stamp: Stamp, address: Address) -> Header
     ensures { result ≡ header_to links.now stamp address }
 {
     let system = links.system();

@@ -34,7 +34,7 @@ pub fn push_resent(
     ensures { OnOk result (all.new.items ≡ all.old.items
         ++ map (copy_to links.now asked.entry.to) (filter (is_resent links.now asked.entry.area.now asked.entry.to) (message.now ∷ []))) }
 {
-    if !is_whole_in(asked.area, message) {
+    if !is_resendable(asked.area, message) {
         return Ok(());
     }
     let one = prepared(alloc, links, message)?;
@@ -64,7 +64,7 @@ pub fn push_exported(
 }
 
 /// Whether the message belongs to the area, and no purge removed its text.
-pub fn is_whole_in(area: &[u8], message: &Filed) -> bool
+pub fn is_resendable(area: &[u8], message: &Filed) -> bool
     ensures { result ≡ is_whole_in area.now message.now }
 {
     let echo = &message.echo;

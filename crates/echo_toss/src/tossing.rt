@@ -38,11 +38,11 @@ pub fn toss_step<T: Store>(
 {
     let verdict = judged(alloc, links, store, sender, packed)?;
     match verdict {
-        Verdict::New(key, message) => {
+        Decision::New(key, message) => {
             store.file(key, message)?;
             Ok(Outcome::Filed)
         }
-        Verdict::Left(outcome) => Ok(outcome),
+        Decision::Left(outcome) => Ok(outcome),
     }
 }
 
@@ -60,7 +60,7 @@ impl<S: BuildHasher> Tosser<S> {
 }
 
 #[derive(Drop)]
-enum Verdict {
+enum Decision {
     New(Key, Filed),
     Left(Outcome),
 }
@@ -71,7 +71,7 @@ fn judged<T: Store>(
     store: &mut T,
     sender: Address,
     packed: &Packed,
-) -> Result<Verdict, StoreError>
+) -> Result<Decision, StoreError>
     requires { (T.state store.old).is_ready }
     ensures verdict { Honestly (T.state store.new).disk ((base : Base) → (T.state store.old).keeps base
         → IfOk result (IsVerdict links.now base.messages sender packed.now)) }
@@ -82,14 +82,14 @@ fn judged<T: Store>(
 {
     let reading = read(alloc, links, sender, packed)?;
     match reading {
-        Reading::Unwanted(outcome) => Ok(Verdict::Left(outcome)),
+        Reading::Unwanted(outcome) => Ok(Decision::Left(outcome)),
         Reading::Wanted(front) => {
             let key = key_in(alloc, packed, &front)?;
             if store.knows(&key)? {
-                return Ok(Verdict::Left(Outcome::Known));
+                return Ok(Decision::Left(Outcome::Known));
             }
             let message = received(alloc, sender, packed, front)?;
-            Ok(Verdict::New(key, message))
+            Ok(Decision::New(key, message))
         }
     }
 }

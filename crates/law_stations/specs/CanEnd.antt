@@ -1,4 +1,4 @@
--- The temporary files of a station's stopped scans can be finished.
+-- The staging files of a station's stopped scans can be finished.
 use Rattle.std.specs.Prelude.{ℕ}
 use Rattle.law_stations.specs.{Disks.Disks, Disks.HasCursor, Stopping.EndsSome, Stopping.HasNoneStaged}
 

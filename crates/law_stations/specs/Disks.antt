@@ -1,9 +1,9 @@
--- The disks of stations with commands that may be stopped: packet files under their names, and temporary files.
+-- The disks of stations with commands that may be stopped: packet files under their names, and staging files.
 use Rattle.std.specs.Prelude.{◌≡◌, ℕ, Bool, true, false, List, [], ◌∷◌, ◌++◌, map, Some}
 use Rattle.model_run.specs.Run.{nth}
 use Rattle.law_stations.specs.Nets.{Net, Station, first_net}
 
--- A temporary file of a packet: the station that wrote it, the number in its name, its bytes, and whether the
+-- A staging file of a packet: the station that wrote it, the number in its name, its bytes, and whether the
 -- packet's name has them too. The number is the count of messages that the station had scanned before.
 pub record StagingFile : Type 0 where
   pub station : ℕ
@@ -11,7 +11,7 @@ pub record StagingFile : Type 0 where
   pub bytes : List ℕ
   pub named : Bool
 
--- The stations, with the packet files that got their names, in this order, each once; and the temporary files.
+-- The stations, with the packet files that got their names, in this order, each once; and the staging files.
 pub record Disks : Type 0 where
   pub net : Net
   pub staging : List StagingFile

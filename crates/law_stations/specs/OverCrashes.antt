@@ -6,7 +6,7 @@ use Rattle.echo_links.specs.Links.{LinkFile}
 use Rattle.model_run.specs.Run.{nth}
 use Rattle.law_stations.specs.{Commands.Command, Commands.CommandEvent, Commands.Happen, Commands.Post, Commands.Purge, Commands.Scan, Commands.Toss, InOrder.IsSound, Agreement.file_address, Nets.Net, Nets.Paired, Nets.first_net, Disks.StagingFile, Disks.Disks, Disks.HasCursor, Disks.first_disks, Stopping.MayHappenAll}
 
--- A temporary file that did not get its name yet, after its scan moved the cursor: the next scan of the station will
+-- A staging file that did not get its name yet, after its scan moved the cursor: the next scan of the station will
 -- name it.
 pub record IsToBeNamed (d : Disks) (file : StagingFile) : Type 0 where
   pub staged : Among file d.staging
@@ -45,7 +45,7 @@ abbrev pub CrashesAreNone : Type 0
 CrashesAreNone = (links : List (List ℕ)) (commands : List CommandEvent) (d : Disks) → MayHappenAll commands (first_disks links) d
     → (plain : List CommandEvent) × (net : Net) × Paired IsLikeEvent commands plain × Happen plain (first_net links) net × HasNet d net
 
--- The disks of a net without temporary files.
+-- The disks of a net without staging files.
 abbrev pub disks_of : Net → Disks
 disks_of net = record { net = net; staging = [] }
 

@@ -11,8 +11,8 @@ use Rattle.law_stations.specs.{Nets.Net, Nets.with_left, Disks.StagingFile, Disk
 abbrev pub now_named : StagingFile → StagingFile
 now_named file = record { station = file.station; number = file.number; bytes = file.bytes; named = true }
 
--- A scan finishes a temporary file. If its number is below the cursor, its scan had moved the cursor: the packet gets
--- its name, and the temporary file is removed, unless a stop leaves it. Otherwise it is removed.
+-- A scan finishes a staging file. If its number is below the cursor, its scan had moved the cursor: the packet gets
+-- its name, and the staging file is removed, unless a stop leaves it. Otherwise it is removed.
 abbrev pub Ends : ℕ → Net → StagingFile → Net → List StagingFile → Type 0
 Ends cursor net file new left =
     ((file.number < cursor) × (new ≡ naming net file.bytes file.named) × ((left ≡ []) ⊎ (left ≡ now_named file ∷ [])))
@@ -36,7 +36,7 @@ abbrev pub EndsSome : ℕ → ℕ → Disks → Disks → Type 0
 EndsSome zero i d new = new ≡ d
 EndsSome (suc n) i d new = (next : Disks) × EndsOne i d next × EndsSome n i next new
 
--- A station has no temporary file.
+-- A station has no staging file.
 abbrev pub HasNoneStaged : ℕ → List StagingFile → Type 0
 HasNoneStaged i files = (file : StagingFile) → Among file files → file.station ≢ i
 
@@ -46,7 +46,7 @@ pub record IsOfNext (i cursor : ℕ) (file : StagingFile) : Type 0 where
   pub number : file.number ≡ cursor
   pub unnamed : file.named ≡ false
 
--- A scan with no temporary file of its station left was stopped before the commit of its base: it wrote temporary
+-- A scan with no staging file of its station left was stopped before the commit of its base: it wrote staging
 -- files, of any bytes.
 pub record Writes (i : ℕ) (d new : Disks) : Type 0 where
   pub none : HasNoneStaged i d.staging
@@ -56,11 +56,11 @@ pub record Writes (i : ℕ) (d new : Disks) : Type 0 where
   pub are : AllByRecursion (IsOfNext i cursor) files
   pub becomes : new ≡ record { net = d.net; staging = d.staging ++ files }
 
--- The temporary file of a packet.
+-- The staging file of a packet.
 abbrev pub staging_of : ℕ → ℕ → PacketFile → StagingFile
 staging_of i cursor file = record { station = i; number = cursor; bytes = file.bytes; named = false }
 
--- The packets of the scan are temporary files, and its base is committed.
+-- The packets of the scan are staging files, and its base is committed.
 pub record Moves (stamp : Stamp) (i : ℕ) (d new : Disks) : Type 0 where
   pub none : HasNoneStaged i d.staging
   pub cursor : ℕ

@@ -3,13 +3,13 @@
 ghost use Rattle.law_stations.specs.{AnyDisks.HeadlineFromAnyDisks, AnyDisks.NoneIsLostFromAnyDisks, CanEnd.LeftCanEnd, OverCrashes.CrashesAreNone, OverCrashes.SoundOverCrashes, OverCrashes.WholeAreAmong};
 
 /// Whatever stops commands at any time, the disks have the bases and postings of a net with such commands, all
-/// of them whole. Each of its packets has its name, or is a temporary file that the next scan of its station
+/// of them whole. Each of its packets has its name, or is a staging file that the next scan of its station
 /// will name. Nothing else has the name of a packet.
 pub fn crashes_are_none()
     ensures { CrashesAreNone }
 {}
 
-/// The temporary files of a station's stopped scans can be finished. So the laws on scans, which begin after
+/// The staging files of a station's stopped scans can be finished. So the laws on scans, which begin after
 /// that, always have disks to begin from.
 pub fn left_packets_can_end()
     ensures { LeftCanEnd }
@@ -29,7 +29,7 @@ pub fn nets_are_sound_over_crashes()
 {}
 
 /// The headline over crashes from any state on, for new messages. Let `check` have ended with 0 for the link files that the
-/// stations have now, and an area. Whatever bases, packet files and temporary files the disks have, each message of the area
+/// stations have now, and an area. Whatever bases, packet files and staging files the disks have, each message of the area
 /// that none of them has is in order once it is posted.
 pub fn new_messages_are_in_order_over_crashes()
     ensures { HeadlineFromAnyDisks }

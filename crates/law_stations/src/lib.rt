@@ -8,7 +8,7 @@
 //! Begin with specs/: `Nets` (stations, packet files) and `Commands` (the effect of a command on them). `Agreement`
 //! says when a net and a run agree, `InOrder` is the promise about a net. `Repairs` has packets of repairs, and rounds.
 //!
-//! For crashes, `Disks` has files under their names, and temporary files. `Stopping` says how far a command gets, `CanEnd`
+//! For crashes, `Disks` has files under their names, and staging files. `Stopping` says how far a command gets, `CanEnd`
 //! treats the files of stopped scans, and `OverCrashes` is the promise about the disks. For one station: `LoneStations`
 //! and `AloneInOrder`, and with crashes `LoneDisks` and `AloneOverCrashes`.
 //!
@@ -49,6 +49,6 @@ pub use lone_laws::{
 pub use repair_laws::{repairs_bring_all_everywhere, what_is_mended_is_everywhere};
 pub use scanning::scan_as_may;
 pub use sequence_laws::{
-    commands_go_on, new_messages_are_in_order_over_sequences, scans_go_on, sequences_are_among,
-    tosses_go_on,
+    commands_continue, new_messages_are_in_order_over_sequences, scans_continue,
+    sequences_are_among, tosses_continue,
 };

@@ -14,17 +14,17 @@ pub fn sequences_are_among<'a, D: Disk, P: OpenStation<'a, D>, O: OpenStation<'a
 /// A command that does on the disk what its event may do is such a step, whatever crash cuts it: the contracts of
 /// law_stations say so. It is a step if it ended well, or met a fault and left the station as it was. Then its base must
 /// be synced if others share the disk.
-pub fn commands_go_on<'a, D: Disk, P: OpenStation<'a, D>, O: OpenStation<'a, D>>()
+pub fn commands_continue<'a, D: Disk, P: OpenStation<'a, D>, O: OpenStation<'a, D>>()
     ensures { CommandsGoOn D.state (either P.place O.place) }
 {}
 
 /// Of a toss that ended well: the packets that it tossed whole are delivered.
-pub fn tosses_go_on<'a, D: Disk, P: OpenStation<'a, D>, O: OpenStation<'a, D>>()
+pub fn tosses_continue<'a, D: Disk, P: OpenStation<'a, D>, O: OpenStation<'a, D>>()
     ensures { TossesGoOn D.state (either P.place O.place) }
 {}
 
 /// Of a scan: whatever crash cuts it, if it ends well, and if it leaves the station as it was.
-pub fn scans_go_on<'a, D: Disk, P: OpenStation<'a, D>, O: OpenStation<'a, D>>()
+pub fn scans_continue<'a, D: Disk, P: OpenStation<'a, D>, O: OpenStation<'a, D>>()
     ensures { ScansGoOn D.state (either P.place O.place) }
 {}
 

@@ -1,9 +1,9 @@
 //! The parts of a graph and the loops of its blocks, by a search in depth. No clause says that these are all.
 
 use crate::blocks::{Blocks, value_or};
-use crate::division::blocks_of;
+use crate::division::find_blocks;
 use crate::graph::{Graph, Links};
-use crate::polygons::{Loop, loop_of};
+use crate::polygons::{Loop, find_loop};
 use crate::sound::is_graph;
 use std::alloc::{AllocError, Global};
 
@@ -12,14 +12,14 @@ use std::alloc::{AllocError, Global};
 pub struct Pieces {
     /// The first member of each part, ascending.
     pub parts: Vec<usize>,
-    /// The loop of each block that has one: the loop of `loop_of` for the graph of this block alone. They come by
+    /// The loop of each block that has one: the loop of `find_loop` for the graph of this block alone. They come by
     /// their first pinches, ascending.
     pub loops: Vec<Vec<usize>>,
 }
 
 /// The parts and loops of the graph. Takes about the time of a few searches.
-pub fn pieces_of(alloc: Global, graph: &Graph) -> Result<Pieces, AllocError> {
-    let blocks = blocks_of(alloc, graph)?;
+pub fn find_pieces(alloc: Global, graph: &Graph) -> Result<Pieces, AllocError> {
+    let blocks = find_blocks(alloc, graph)?;
     let mut parts = Vec::new(alloc);
     for member in 0..graph.len() {
         if blocks.top(member) == member {
@@ -83,7 +83,7 @@ fn loop_among(alloc: Global, graph: &Graph, names: &[usize]) -> Result<Option<Lo
     if !is_graph(&rows) {
         return Ok(None);
     }
-    let Some(mut found) = loop_of(alloc, &Graph::new(rows))? else {
+    let Some(mut found) = find_loop(alloc, &Graph::new(rows))? else {
         return Ok(None);
     };
     found.pinch.at = value_or(names, found.pinch.at, 0);

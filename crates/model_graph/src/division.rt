@@ -9,7 +9,7 @@ use crate::graph::Graph;
 use std::alloc::{AllocError, Global};
 
 /// The blocks that the search in depth found or, if they fail the test, one block of all members.
-pub fn blocks_of(alloc: Global, graph: &Graph) -> Result<Blocks, AllocError>
+pub fn find_blocks(alloc: Global, graph: &Graph) -> Result<Blocks, AllocError>
     ensures blocks { IfOk result (λ blocks. AreBlocks (linked graph.now) (length graph.now) (block_of blocks) (top_of blocks) (rank_of blocks)) }
     ensures full { IfOk result (λ blocks. AreFull (linked graph.now) (length graph.now) (block_of blocks) (top_of blocks) (full_of blocks)) }
 {

@@ -18,13 +18,13 @@ mod ring;
 mod sound;
 mod writing;
 
-pub use block_loops::{Pieces, pieces_of};
+pub use block_loops::{Pieces, find_pieces};
 pub use graph::{Graph, Links};
 pub use laws::{
     along_ways, cycle_written_anew, first_step, further_out, one_way, other_names,
     polygons_where_parted,
 };
 pub use pinching::Pinch;
-pub use polygons::{Loop, loop_of};
+pub use polygons::{Loop, find_loop};
 pub use reach::unreached;
 pub use sound::is_graph;

@@ -3,7 +3,7 @@ ghost use Rattle.model_graph.specs.Blocks.{block_of, top_of, rank_of, full_of, A
 ghost use Rattle.model_graph.specs.{Rows.linked, Rows.IsGraph, Levels.level_of, Levels.AreLevels, Pinches.IsPinch, Pinches.FirstPinch, Pinches.FirstOther, Pinches.FirstHere};
 
 use crate::blocks::Blocks;
-use crate::division::blocks_of;
+use crate::division::find_blocks;
 use crate::graph::Graph;
 use crate::levels::levels_around;
 use std::alloc::{AllocError, Global};
@@ -28,7 +28,7 @@ pub fn first_pinch(alloc: Global, graph: &Graph) -> Result<Option<Pinch>, AllocE
         (λ pinch. FirstPinch (linked graph.now) pinch.at pinch.one pinch.other)) }
 {
     let members = graph.len();
-    let blocks = blocks_of(alloc, graph)?;
+    let blocks = find_blocks(alloc, graph)?;
     'members: for at in 0..members {
         if let Some(pinch) = first_pinch_at(alloc, graph, &blocks, at)? {
             return Ok(Some(pinch));

@@ -3,7 +3,7 @@ ghost use Rattle.model_graph.specs.{Cycle.Polygons, Rows.linked, Loops.NamedLoop
 
 use crate::graph::Graph;
 use crate::pinching::{Pinch, first_pinch};
-use crate::ring::ring_of;
+use crate::ring::find_ring;
 use crate::writing::written;
 use std::alloc::{AllocError, Global};
 
@@ -21,7 +21,7 @@ pub struct Loop {
 /// It takes the smallest b with links a < c that are not linked, but joined around b; then the smallest a, c and the
 /// shortest, least walk. It is written from its smallest member, first to the smaller neighbour. Fails only when out
 /// of memory.
-pub fn loop_of(alloc: Global, graph: &Graph) -> Result<Option<Loop>, AllocError>
+pub fn find_loop(alloc: Global, graph: &Graph) -> Result<Option<Loop>, AllocError>
     ensures { IfOk result (λ found. MatchOption found
         (Polygons (linked graph.now))
         (λ named. NamedLoop (linked graph.now) named.round.items)) }
@@ -29,7 +29,7 @@ pub fn loop_of(alloc: Global, graph: &Graph) -> Result<Option<Loop>, AllocError>
     let Some(pinch) = first_pinch(alloc, graph)? else {
         return Ok(None);
     };
-    let ring = ring_of(alloc, graph, pinch)?;
+    let ring = find_ring(alloc, graph, pinch)?;
     let round = written(alloc, &ring)?;
     Ok(Some(Loop { pinch, round }))
 }

@@ -8,7 +8,7 @@ use std::alloc::{AllocError, Global};
 
 /// The member of the pinch, and then the walk around it from the smaller link to the greater: of
 /// those with the fewest members the least.
-pub fn ring_of(alloc: Global, graph: &Graph, pinch: Pinch) -> Result<Vec<usize>, AllocError>
+pub fn find_ring(alloc: Global, graph: &Graph, pinch: Pinch) -> Result<Vec<usize>, AllocError>
     requires sound { IsGraph graph.now }
     requires pinch { IsPinch (linked graph.now) pinch.at pinch.one pinch.other }
     ensures { IfOk result (λ ring. (rest : List ℕ) × (ring.items ≡ pinch.at ∷ pinch.one ∷ rest) ×

@@ -6,14 +6,14 @@ use model_replay::Receivers;
 use std::alloc::{AllocError, Global};
 
 #[derive(Clone, Copy)]
-pub(crate) struct Area<'a> {
+pub(crate) struct PlanArea<'a> {
     pub(crate) alloc: Global,
     pub(crate) files: &'a [LinkFile],
     pub(crate) tag: &'a [u8],
     pub(crate) receivers: &'a Receivers,
 }
 
-impl<'a> Area<'a> {
+impl<'a> PlanArea<'a> {
     pub(crate) fn found(self, systems: &[Address]) -> Result<Vec<usize>, AllocError> {
         let mut all = Vec::new(self.alloc);
         for address in systems {

@@ -1,6 +1,6 @@
 //! A short loop among the systems of a loop that is not fully linked.
 
-use crate::area::Area;
+use crate::area::PlanArea;
 use echo_addr::Address;
 use std::alloc::{AllocError, Global};
 
@@ -8,14 +8,14 @@ use std::alloc::{AllocError, Global};
 /// no member.
 #[derive(Clone, Copy)]
 struct Ring<'a> {
-    area: Area<'a>,
+    area: PlanArea<'a>,
     members: &'a [usize],
     places: &'a [Option<usize>],
 }
 
 /// The systems of the loop, by their indexes, that make a loop without a link across; or four of them of
 /// which two are not linked.
-pub(crate) fn short_loop(area: Area<'_>, round: &[Address]) -> Result<Vec<usize>, AllocError> {
+pub(crate) fn short_loop(area: PlanArea<'_>, round: &[Address]) -> Result<Vec<usize>, AllocError> {
     let members = area.found(round)?;
     match shorter_loop(area, &members)? {
         Some(shorter) => Ok(shorter),
@@ -24,7 +24,7 @@ pub(crate) fn short_loop(area: Area<'_>, round: &[Address]) -> Result<Vec<usize>
 }
 
 // Members by their indexes. None where no link leads across: then it is all of them.
-fn shorter_loop(area: Area<'_>, members: &[usize]) -> Result<Option<Vec<usize>>, AllocError> {
+fn shorter_loop(area: PlanArea<'_>, members: &[usize]) -> Result<Option<Vec<usize>>, AllocError> {
     let places = places(area.alloc, area.files.len(), members)?;
     shorter_in(Ring {
         area,

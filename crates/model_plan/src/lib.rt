@@ -12,4 +12,4 @@ mod sets;
 mod sketch;
 
 pub use plan::{Guess, Move, Plan};
-pub use planning::plan_for;
+pub use planning::find_plan;

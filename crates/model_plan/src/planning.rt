@@ -1,4 +1,4 @@
-use crate::area::Area;
+use crate::area::PlanArea;
 use crate::circle::short_loop;
 use crate::needed::moves_for;
 use crate::plan::{Guess, Plan};
@@ -15,7 +15,7 @@ const MOST_TRIED: usize = 4;
 
 /// A plan by which the fault would show in the area of the tag, if one is found: of those that were looked at the one with the
 /// fewest moves. Look-ups go by the hasher. Fails only when out of memory.
-pub fn plan_for(
+pub fn find_plan(
     alloc: Global,
     files: &[LinkFile],
     tag: &[u8],
@@ -24,7 +24,7 @@ pub fn plan_for(
 ) -> Result<Option<Plan>, AllocError> {
     let receivers = Receivers::new(alloc, files, hasher)?;
     plan(
-        Area {
+        PlanArea {
             alloc,
             files,
             tag,
@@ -34,7 +34,7 @@ pub fn plan_for(
     )
 }
 
-fn plan(area: Area<'_>, fault: &NetFault) -> Result<Option<Plan>, AllocError> {
+fn plan(area: PlanArea<'_>, fault: &NetFault) -> Result<Option<Plan>, AllocError> {
     match fault {
         NetFault::NoSuchArea => Ok(None),
         NetFault::TwoFiles(_) => shortest(area, &carriers(area)?, None),
@@ -49,7 +49,7 @@ fn plan(area: Area<'_>, fault: &NetFault) -> Result<Option<Plan>, AllocError> {
 }
 
 // A link to an address that does not carry the area. Where no file has the address, the first scan shows it.
-fn unknown(area: Area<'_>, system: Address, link: Address) -> Result<Option<Plan>, AllocError> {
+fn unknown(area: PlanArea<'_>, system: Address, link: Address) -> Result<Option<Plan>, AllocError> {
     let posters = area.found(&[system])?;
     match area.receivers.of(link) {
         Some(_) => shortest(area, &posters, None),
@@ -58,7 +58,7 @@ fn unknown(area: Area<'_>, system: Address, link: Address) -> Result<Option<Plan
 }
 
 // Two systems of one net and node: these post, and those that list one of them alone.
-fn twins(area: Area<'_>, one: Address, other: Address) -> Result<Option<Plan>, AllocError> {
+fn twins(area: PlanArea<'_>, one: Address, other: Address) -> Result<Option<Plan>, AllocError> {
     let mut posters = area.found(&[one, other])?;
     for (i, file) in area.files.iter().enumerate() {
         if posters.len() < MOST_TRIED
@@ -71,7 +71,7 @@ fn twins(area: Area<'_>, one: Address, other: Address) -> Result<Option<Plan>, A
 }
 
 // Systems of a loop: packets come to these alone, and, where nothing shows so, to all.
-fn round_about(area: Area<'_>, round: &[Address]) -> Result<Option<Plan>, AllocError> {
+fn round_about(area: PlanArea<'_>, round: &[Address]) -> Result<Option<Plan>, AllocError> {
     let members = short_loop(area, round)?;
     let marked = marks(area, &members)?;
     let posters = first_few(area.alloc, &members)?;
@@ -81,7 +81,7 @@ fn round_about(area: Area<'_>, round: &[Address]) -> Result<Option<Plan>, AllocE
     }
 }
 
-fn marks(area: Area<'_>, members: &[usize]) -> Result<Vec<bool>, AllocError> {
+fn marks(area: PlanArea<'_>, members: &[usize]) -> Result<Vec<bool>, AllocError> {
     let mut marks = Vec::new(area.alloc);
     for _ in 0..area.files.len() {
         marks.push(false)?;
@@ -105,7 +105,7 @@ fn first_few(alloc: Global, members: &[usize]) -> Result<Vec<usize>, AllocError>
 }
 
 // The first few systems that have the area.
-fn carriers(area: Area<'_>) -> Result<Vec<usize>, AllocError> {
+fn carriers(area: PlanArea<'_>) -> Result<Vec<usize>, AllocError> {
     let mut all = Vec::new(area.alloc);
     for (i, file) in area.files.iter().enumerate() {
         if all.len() < MOST_TRIED && file.has_area(area.tag) {
@@ -116,7 +116,7 @@ fn carriers(area: Area<'_>) -> Result<Vec<usize>, AllocError> {
 }
 
 fn shortest(
-    area: Area<'_>,
+    area: PlanArea<'_>,
     posters: &[usize],
     marked: Option<&[bool]>,
 ) -> Result<Option<Plan>, AllocError> {
@@ -143,7 +143,7 @@ fn shorter(one: Option<Plan>, other: Option<Plan>) -> Option<Plan> {
 }
 
 fn plan_of(
-    area: Area<'_>,
+    area: PlanArea<'_>,
     poster: usize,
     marked: Option<&[bool]>,
 ) -> Result<Option<Plan>, AllocError> {

@@ -1,7 +1,7 @@
 //! How a message would spread, by addresses alone: no packet is made here. The sketch only decides which events are
 //! tried on real packets.
 
-use crate::area::Area;
+use crate::area::PlanArea;
 use crate::plan::{Guess, Move};
 use crate::sets::{NOTHING, Sets};
 use echo_addr::Address;
@@ -17,7 +17,7 @@ pub(crate) struct Sent {
 
 /// What becomes of the message at a system.
 #[derive(Drop)]
-pub(crate) struct Place {
+pub(crate) struct MessageFate {
     filed: bool,
     /// The packet in which it came, and which of the moves is that delivery.
     pub(crate) came: Option<(usize, usize)>,
@@ -28,11 +28,11 @@ pub(crate) struct Place {
 
 #[derive(Drop)]
 pub(crate) struct Sketch<'a> {
-    area: Area<'a>,
+    area: PlanArea<'a>,
     poster: usize,
     pub(crate) moves: Vec<Move>,
     pub(crate) packets: Vec<Sent>,
-    pub(crate) places: Vec<Place>,
+    pub(crate) places: Vec<MessageFate>,
     sets: Sets,
     /// The packets by which a guess shows.
     pub(crate) showing: Vec<usize>,
@@ -40,10 +40,10 @@ pub(crate) struct Sketch<'a> {
 }
 
 impl<'a> Sketch<'a> {
-    pub(crate) fn new(area: Area<'a>, poster: usize) -> Result<Sketch<'a>, AllocError> {
+    pub(crate) fn new(area: PlanArea<'a>, poster: usize) -> Result<Sketch<'a>, AllocError> {
         let mut places = Vec::new(area.alloc);
         for i in 0..area.files.len() {
-            places.push(Place {
+            places.push(MessageFate {
                 filed: i == poster,
                 came: None,
                 first: None,

@@ -176,7 +176,7 @@ impl World {
     }
 
     /// Whom the packet is for.
-    pub fn packet_to(&self, k: usize) -> Option<Address>
+    pub fn packet_destination(&self, k: usize) -> Option<Address>
         ensures { (run : Run) → IsWorldOf self.now run → result ≡ option_map destination (nth k run.packets) }
     {
         destination_at(&self.packets, k)

@@ -16,7 +16,7 @@ pub use fault::{PostFault, ScanFault};
 pub use laws::{
     base_laws, copy_laws, posting_laws, posting_refusals, scan_law, toss_law, toss_outcomes,
 };
-pub use moment::{date_of, is_stamp};
+pub use moment::{date_time, is_stamp};
 pub use outcome::Outcome;
 pub use packet::{Packet, message_size};
 pub use reply_ids::is_reply_id;

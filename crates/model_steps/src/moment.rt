@@ -25,7 +25,7 @@ fn is_within(low: u16, high: u16, part: u16) -> bool
 }
 
 /// The DateTime of the stamp (FTS-0001): `DD Mon YY  hh:mm:ss` and 00.
-pub fn date_of(stamp: Stamp) -> [u8; 20]
+pub fn date_time(stamp: Stamp) -> [u8; 20]
     requires { is_stamp stamp ≡ true }
     ensures { result ≡ date_of stamp }
 {

@@ -58,7 +58,7 @@ fn copies_to(
 pub(crate) fn is_for(world: &World, k: usize, to: Address) -> bool
     ensures { (run : Run) → IsWorldOf world.now run → (p : Packet) → nth k run.packets ≡ Some p → result ≡ same_address (destination p) to }
 {
-    match world.packet_to(k) {
+    match world.packet_destination(k) {
         Some(address) => address == to,
         None => false,
     }

@@ -6,7 +6,7 @@ use crate::shown::Shown;
 use crate::sources::read_files;
 use echo_addr::Items;
 use echo_net::Verdict;
-use model_plan::plan_for;
+use model_plan::find_plan;
 use std::alloc::{AllocError, Global};
 use std::hash::RandomState;
 
@@ -26,7 +26,7 @@ pub fn explain(
         return Ok(None);
     };
     let files = read_files(alloc, sources)?;
-    match plan_for(alloc, &files, tag, fault, hasher)? {
+    match find_plan(alloc, &files, tag, fault, hasher)? {
         Some(plan) => confirmed(alloc, files, tag, plan, hasher),
         None => Ok(None),
     }

@@ -11,7 +11,7 @@ use echo_links::LinkFile;
 use std::alloc::Global;
 
 /// Takes the lock of the file with this path.
-pub fn lock_at<'a, L: FileLock>(lock: &mut L, path: &'a str) -> Result<(), Fault<'a>>
+pub fn take_lock<'a, L: FileLock>(lock: &mut L, path: &'a str) -> Result<(), Fault<'a>>
     requires { L.held lock.old ≡ None }
     ensures locked { OnOk result (L.held lock.new ≡ Some path.now) }
     ensures err { IfErr result (FailsAt path.now (Failed (L.failures lock.old) (L.failures lock.new))) }
@@ -57,8 +57,8 @@ pub fn lock_both<'a, L: FileLock, K: FileLock>(
     ensures order { K.held locks.new.base ≡ Some base.now → L.held locks.new.links ≡ Some links.now }
     ensures err { IfErr result (λ fault. FailsAt links.now (Failed (L.failures locks.old.links) (L.failures locks.new.links)) fault ⊎ FailsAt base.now (Failed (K.failures locks.old.base) (K.failures locks.new.base)) fault) }
 {
-    lock_at(&mut locks.links, links)?;
-    lock_at(&mut locks.base, base)
+    take_lock(&mut locks.links, links)?;
+    take_lock(&mut locks.base, base)
 }
 
 /// Judges what the link file with this path says. Its lock is held.
@@ -79,7 +79,7 @@ pub fn links_held<'a, D: Disk, L: FileLock>(
 }
 
 /// Takes the lock of the link file with this path, and judges what it says.
-pub fn links_at<'a, D: Disk, L: FileLock>(
+pub fn lock_and_read_links<'a, D: Disk, L: FileLock>(
     alloc: Global,
     disk: &mut D,
     lock: &mut L,

@@ -10,14 +10,14 @@ use std::io::{ErrorKind, Read};
 
 /// Reads a packet file.
 #[derive(Drop)]
-pub enum PacketReader<R> {
+pub enum PacketSource<R> {
     /// One that is held in memory.
     Held(HeldBytes),
     /// One that is read piece by piece.
     Streamed(R),
 }
 
-impl<R: Source> Read for PacketReader<R> {
+impl<R: Source> Read for PacketSource<R> {
     ghost remaining = { held_remaining R.remaining };
 
     fn read(&mut self, buf: &mut [u8]) -> io::Result<usize>
@@ -30,29 +30,29 @@ impl<R: Source> Read for PacketReader<R> {
     }
 }
 
-impl<R: Source> Source for PacketReader<R> {
+impl<R: Source> Source for PacketSource<R> {
     ghost failures = { held_failures R.failures };
 
     ghost held = { held_front R.held };
 
     fn read_some(&mut self, buf: &mut [u8]) -> Result<usize, Failure> {
         match self {
-            PacketReader::Held(held) => Ok(held.give(buf)),
-            PacketReader::Streamed(reader) => reader.read_some(buf),
+            PacketSource::Held(held) => Ok(held.give(buf)),
+            PacketSource::Streamed(reader) => reader.read_some(buf),
         }
     }
 
     fn held(&self) -> &[u8] {
         match self {
-            PacketReader::Held(held) => held.as_slice(),
-            PacketReader::Streamed(reader) => reader.held(),
+            PacketSource::Held(held) => held.as_slice(),
+            PacketSource::Streamed(reader) => reader.held(),
         }
     }
 
     fn skip(&mut self, count: usize) {
         match self {
-            PacketReader::Held(held) => held.skip(count),
-            PacketReader::Streamed(reader) => reader.skip(count),
+            PacketSource::Held(held) => held.skip(count),
+            PacketSource::Streamed(reader) => reader.skip(count),
         }
     }
 }

@@ -5,7 +5,7 @@ ghost use Rattle.cmd_store.specs.Coming.{Opens};
 ghost use Rattle.station.specs.{PacketReader.held_remaining, PacketsFound.IsFound, Faults.HasSize, PacketsOnDisk.coming_at, PacketsOnDisk.most_held};
 
 use crate::held_bytes::HeldBytes;
-use crate::packet_reader::PacketReader;
+use crate::packet_reader::PacketSource;
 use crate::reading::size_of;
 use cmd_status::{Fault, PacketName, StreamPackets};
 use cmd_store::PacketFiles;
@@ -47,13 +47,13 @@ pub fn packets_on_disk<'a, D: Disk, N: PacketName, S: StreamPackets<'a>>(
 
 impl<'a, D: Disk + Drop, N: PacketName, S: StreamPackets<'a>> PacketFiles<'a>
     for PacketsOnDisk<'a, D, N, S> {
-    type Reader = PacketReader<S::Reader>;
+    type Reader = PacketSource<S::Reader>;
 
     ghost coming = { λ packets. map (λ name. coming_at (D.state packets.disk).seen (N.is_usable name) (N.path name)) packets.names.now };
 
     ghost is_honest = { λ packets. (D.state packets.disk).is_honest × (D.failures packets.disk ≡ 0) };
 
-    fn open_next(&mut self) -> Option<Result<PacketReader<S::Reader>, Fault<'a>>> {
+    fn open_next(&mut self) -> Option<Result<PacketSource<S::Reader>, Fault<'a>>> {
         let names: &'a [N] = self.names;
         if names.is_empty() {
             return None;
@@ -72,7 +72,7 @@ fn open_packet<'a, D: Disk, N: PacketName, S: StreamPackets<'a>>(
     streams: &S,
     number: usize,
     name: &'a N,
-) -> Result<PacketReader<S::Reader>, Fault<'a>>
+) -> Result<PacketSource<S::Reader>, Fault<'a>>
     ensures opens { Honestly (D.state disk.new) (D.failures disk.new ≡ 0 → Opens (held_remaining S.Reader.remaining)
         (coming_at (D.state disk.old).seen (N.is_usable name.now) (N.path name.now)) result) }
     ensures quiet { ChangesNothing (D.state disk.old) (D.state disk.new) }
@@ -82,9 +82,9 @@ fn open_packet<'a, D: Disk, N: PacketName, S: StreamPackets<'a>>(
     match hold_packet(alloc, disk, path)? {
         Found::Whole(bytes) => {
             streams.tell(number);
-            Ok(PacketReader::Held(HeldBytes::new(bytes)))
+            Ok(PacketSource::Held(HeldBytes::new(bytes)))
         }
-        Found::Unheld => Ok(PacketReader::Streamed(streams.open(number, path)?)),
+        Found::Unheld => Ok(PacketSource::Streamed(streams.open(number, path)?)),
         Found::Missing => Err(Fault::CannotUse(path)),
     }
 }

@@ -8,7 +8,7 @@ ghost use Rattle.base_folder_store.specs.{Answers.Answers, Answers.HasReadCause,
 ghost use Rattle.station_bases.specs.Entries.{CanLookUp, IsWithinFile, message_bytes};
 
 use base_file::MessageRoom;
-use base_folder_store::{ReadAhead, bounds_of, read_alone};
+use base_folder_store::{ReadAhead, message_bounds, read_alone};
 use base_store::{Chains, SipDigest, StoreError};
 use disk_io::{Disk, DiskError, read_part};
 use echo_filed::Filed;
@@ -111,7 +111,7 @@ impl Entries {
         let Some(all) = (self.end - HEAD).checked_add(self.waiting.len()) else {
             return Err(StoreError::Memory);
         };
-        let Some(at) = bounds_of(&self.keys, place, all) else {
+        let Some(at) = message_bounds(&self.keys, place, all) else {
             return Err(StoreError::Damaged);
         };
         let waiting = &self.waiting;
@@ -141,7 +141,7 @@ impl Entries {
         let Some(all) = written.checked_add(self.waiting.len()) else {
             return Err(StoreError::Memory);
         };
-        let Some(at) = bounds_of(&self.keys, place, all) else {
+        let Some(at) = message_bounds(&self.keys, place, all) else {
             return Err(StoreError::Damaged);
         };
         if at.ends > written {

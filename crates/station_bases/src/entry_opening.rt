@@ -10,11 +10,11 @@ ghost use Rattle.station_bases.specs.InFile.{RepresentsInFile};
 ghost use Rattle.station_bases.specs.EntryOpening.{AreJudged, HasJudged, IsPartOf, IsSoundIn, StaysIndexed};
 
 use crate::entries::{Entries, HEAD};
-use base_file::{Head, MessageRoom, Next, head_of, judge_next};
+use base_file::{Head, MessageRoom, Next, judge_next, parse_head};
 use base_folder_store::ReadAhead;
 use base_store::{Chains, SipDigest, StoreError, digest_of_key, entry};
 use cmd_status::MessageProgress;
-use disk_io::{Disk, DiskError, read_part_into};
+use disk_io::{Disk, DiskError, fill_with_part};
 use echo_filed::{Key, Version};
 use std::alloc::{AllocError, Global};
 
@@ -59,7 +59,7 @@ impl Piece {
     {
         self.begins = at.min(len);
         let end = self.begins + most.min(len - self.begins);
-        match read_part_into(disk, path, self.begins, end, &mut self.bytes) {
+        match fill_with_part(disk, path, self.begins, end, &mut self.bytes) {
             Ok(()) => Ok(()),
             Err(fault) => {
                 self.bytes.clear();
@@ -295,7 +295,7 @@ fn second_head(bytes: &[u8]) -> Option<Head>
     ensures begins { IfSome result (λ head. BeginsWith head bytes.now) }
     ensures second { IfSome result (λ head. head.version ≡ Second) }
 {
-    let Ok(head) = head_of(bytes) else {
+    let Ok(head) = parse_head(bytes) else {
         return None;
     };
     match head.version {

@@ -11,8 +11,8 @@ use crate::entries::{Entries, HEAD};
 use base_file::{Base, BaseFault};
 use base_folder_store::ReadAhead;
 use base_store::StoreError;
-use disk_atomic::{Kept, replace_around, staging_path};
-use disk_io::{Disk, DiskError, are_bytes, folder_of, read_part};
+use disk_atomic::{KeptRange, replace_around, staging_path};
+use disk_io::{Disk, DiskError, are_bytes, parent_folder, read_part};
 use echo_filed::long_bytes;
 use std::alloc::{AllocError, Global};
 use std::hash::BuildHasher;
@@ -60,7 +60,7 @@ fn put_around<D: Disk>(
     disk: &mut D,
     path: &str,
     own: &[u8],
-    kept: Kept<'_>,
+    kept: KeptRange<'_>,
 ) -> Result<(), DiskError>
     requires plain { All (λ b. b ≢ 47) own.now }
     requires there { Honestly (D.state disk.old) (IsSome ((D.state disk.old).seen path.now)) }
@@ -74,7 +74,7 @@ fn put_around<D: Disk>(
 {
     let path = path.as_bytes();
     let staging = staging_path(alloc, path, own)?;
-    replace_around(alloc, disk, folder_of(path), path, &staging, kept)
+    replace_around(alloc, disk, parent_folder(path), path, &staging, kept)
 }
 
 impl Entries {
@@ -152,7 +152,7 @@ impl Entries {
         let Some(end) = self.end.checked_add(self.waiting.len()) else {
             return Err(StoreError::Memory);
         };
-        let kept = Kept {
+        let kept = KeptRange {
             head: &head,
             from: HEAD,
             to: self.end,

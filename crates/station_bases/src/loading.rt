@@ -11,7 +11,7 @@ use crate::held::Held;
 use base_file::Base;
 use base_store::{Digest, SipDigest};
 use cmd_status::{Fault, FileLock, MessageProgress};
-use disk_io::{Disk, DiskError, folder_of, read_file};
+use disk_io::{Disk, DiskError, parent_folder, read_file};
 use echo_addr::Items;
 use echo_links::LinkFile;
 use station::{Followed, Locks, links_held, system_name};
@@ -33,7 +33,7 @@ fn settle<D: Disk>(disk: &mut D, path: &[u8]) -> Result<bool, DiskError>
     ensures quiet { ChangesNothing (D.state disk.old) (D.state disk.new) }
     ensures cause { HasCause (D.failures disk.old) (D.failures disk.new) result }
 {
-    disk.sync_folder(folder_of(path))?;
+    disk.sync_folder(parent_folder(path))?;
     if !disk.exists(path)? {
         return Ok(false);
     }

@@ -10,7 +10,7 @@ ghost use Rattle.station_bases.specs.{Entries.IsUnsaved, InFile.IsInFile, InFile
 use base_file::{Base, BaseFault, saved_base_law};
 use base_store::StoreError;
 use disk_atomic::{replace_file, staging_path};
-use disk_io::{Disk, DiskError, Watched, folder_of};
+use disk_io::{Disk, DiskError, Watched, parent_folder};
 use echo_addr::Items;
 use std::alloc::Global;
 use std::hash::BuildHasher;
@@ -47,7 +47,7 @@ fn put<D: Disk>(
 {
     let path = path.as_bytes();
     let staging = staging_path(alloc, path, own)?;
-    replace_file(disk, folder_of(path), path, &staging, bytes)
+    replace_file(disk, parent_folder(path), path, &staging, bytes)
 }
 
 /// Replaces the base in a file.

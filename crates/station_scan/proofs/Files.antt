@@ -9,7 +9,7 @@ use Rattle.disk_atomic.proofs.Packets.{nobody}
 use Rattle.echo_addr.specs.declared.address.Address.{Address}
 use Rattle.model_steps.specs.{PacketFiles.PacketFile, Scanning.header_to}
 use Rattle.cmd_store.specs.PacketLines.{file_sent, packet_name}
-use Rattle.echo_toss.specs.{Counts.bytes_for, Counts.link_set, Exports.Outgoing as Sent, Exports.nowhere, Exports.packet_out}
+use Rattle.echo_toss.specs.{Counts.bytes_for, Counts.link_set, Exports.OutgoingMessage as Sent, Exports.nowhere, Exports.packet_out}
 use Rattle.echo_toss.proofs.Counts.{scanned_to}
 use Rattle.station_scan.specs.Sending.{AreRoutes, HasBytes, IsAtItsPath, IsFreeAt, IsOfPacket, IsOffOwn, IsStagingGone, IsStagingOfPacket, IsWhole, file_paths, for_address}
 use Rattle.station_scan.specs.Passing.{AreFor, FitTo, IsFront, IsGrowingTo, IsRouted, IsStagingTo, IsTakenFor, all_sent, is_made, links_to}

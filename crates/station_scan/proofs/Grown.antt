@@ -7,7 +7,7 @@ use Rattle.disk_atomic.specs.{Changes.CanGrow, Changes.ChangesOnly, Outgoing.IsA
 use Rattle.disk_atomic.proofs.Packets.{nobody}
 use Rattle.echo_addr.specs.declared.address.Address.{Address}
 use Rattle.echo_packet.specs.Message.{messages_bytes}
-use Rattle.echo_toss.specs.{Counts.copies_out, Counts.link_set, Exports.Outgoing as Sent}
+use Rattle.echo_toss.specs.{Counts.copies_out, Counts.link_set, Exports.OutgoingMessage as Sent}
 use Rattle.echo_toss.proofs.Counts.{copies_append, messages_append}
 use Rattle.station_scan.specs.Passing.{AreFor, AreGrowing, IsAppending, IsGrowingTo, IsRouted, IsStagingFor, header_for, is_begun, is_made, links_to, path_to, staging_to}
 use Rattle.station_scan.specs.{Publishing.AreOpen, Publishing.IsWritten, declared.sending.Sending.Sending}

@@ -11,7 +11,7 @@ use Rattle.disk_atomic.proofs.Changes.{only_nothing, then_only, wider}
 use Rattle.cmd_store.specs.PacketLines.{packet_name}
 use Rattle.echo_addr.specs.declared.address.Address.{Address}
 use Rattle.echo_toss.specs.Counts.{Group, IsGroupFrom, copies_out, counted_to, counted_with, has_messages, link_set}
-use Rattle.echo_toss.specs.{declared.counting.CountedPacket.CountedPacket, Exports.Outgoing as Sent, Exports.sent_of}
+use Rattle.echo_toss.specs.{declared.counting.CountedPacket.CountedPacket, Exports.OutgoingMessage as Sent, Exports.sent_of}
 use Rattle.echo_toss.proofs.Counts.{copies_append, more_in}
 use Rattle.base_store.specs.Store.{LooksOn, StoreState}
 use Rattle.base_store.proofs.Runs.{same_twice}

@@ -17,7 +17,7 @@ use Rattle.station.specs.Beneath.{IsUsedAt}
 use Rattle.station_scan.specs.Moved.{IsMoved, IsPutFrom, ScansFrom, StopsFrom, ReportsFrom, files_reported, from_number, left_cause, left_reported, reported_as}
 use Rattle.station_scan.specs.Scanning.{IsPutOn, IsTaken, ScansOnStore, SendsOut, StopsScan, TriesOn, packets_in}
 use Rattle.station_scan.specs.{Fitting.AreTaken, Left.AreFreeLeft, Left.EndsLeft, Left.IsLeftOf, Left.IsOfNameOff, Sending.IsStagingOfPacket, Sends.IsLeftAs, Sends.WasTriedFor}
-use Rattle.station_scan.specs.{Stops.IsOfPlacing, Stops.most, declared.pieces.Source.Source, declared.scan_error.ScanError.ScanError}
+use Rattle.station_scan.specs.{Stops.IsOfPlacing, Stops.most, declared.pieces.ScanSource.ScanSource, declared.scan_error.ScanError.ScanError}
 use Rattle.station_scan.specs.declared.{scan_error.ScanError.TheVariants.Command, scan_error.ScanError.TheVariants.Placing, scan_error.ScanError.TheVariants.Staying, sending.Sending.Sending}
 use Rattle.station_scan.proofs.Outs.{is_ended, not_sent, sends_out, stopped_crash, stopped_only}
 use Rattle.station_scan.proofs.{Lefts.finishes_none, Lists.among, Looked.same_seen, Names.ending, Names.not_staging, Names.trial_no_path, Scans.stops_quiet, Staged.tried_after, Stops.put_wider, Stops.tells_none}
@@ -150,7 +150,7 @@ module _ (Own : List ℕ → Type 0) (to : Sending) (own_is : to.own.now ≡ dot
 -- ---- it stopped before
 
 -- the lines were printed or not, and nothing else was done
-pub scans_early : (Own : List ℕ → Type 0) (outbound : List ℕ) (source : Source) (IsTrue : Files → Type 0) (failed : Type 0) (s0 s2 : StoreState) (base : Base) (out now : Output) (why : ScanError) (reported : Result (Unit {0}) CommandError)
+pub scans_early : (Own : List ℕ → Type 0) (outbound : List ℕ) (source : ScanSource) (IsTrue : Files → Type 0) (failed : Type 0) (s0 s2 : StoreState) (base : Base) (out now : Output) (why : ScanError) (reported : Result (Unit {0}) CommandError)
     → IsMoved s0 source.from base → s0.disk.is_honest → ChangesNothing s0.disk s2.disk → ((e : CommandError) → why ≡ Command e → ⊥)
     → IsOfPlacing failed (IsTaken Own outbound (dotted source.links.now.system) base.cursor [] (packets_in source.stamp source.links.now base) s0.disk.seen) (most < base.cursor) why
     → ScansOn source.stamp (state_in source.links.now (from_number source.from base)) out now (files_reported source (all_scanned base) reported) → (IsErrOf (store_answer reported) error.Damaged → ⊥)

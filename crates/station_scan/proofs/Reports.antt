@@ -11,7 +11,7 @@ use Rattle.cmd_status.specs.Devices.{Output}
 use Rattle.cmd_store.specs.{PacketLines.counted_line, Answered.AnswersOn, Answered.AreLines, Answered.RefusesNone, Scanned.ScansOn, Scanned.files_scanned, Stops.store_answer}
 use Rattle.cmd_store.specs.declared.command_error.CommandError.{CommandError, TheVariants.Store}
 use Rattle.cmd_store.proofs.Scans.{scan_printed}
-use Rattle.echo_toss.specs.{declared.counting.CountedPacket.CountedPacket, Counts.counted_of, Counts.counted_to, Counts.link_set, Exports.Outgoing as Sent, Exports.sent_of, PacketsIn.state_in}
+use Rattle.echo_toss.specs.{declared.counting.CountedPacket.CountedPacket, Counts.counted_of, Counts.counted_to, Counts.link_set, Exports.OutgoingMessage as Sent, Exports.sent_of, PacketsIn.state_in}
 use Rattle.echo_toss.proofs.Counts.{all_counted}
 use Rattle.model_steps.specs.{PacketFiles.PacketFile, Scanning.scanned, Stamps.is_stamp}
 use Rattle.base_store.specs.{Store.LooksOn, Store.StoreState, Store.all_scanned, declared.store_error.StoreError.StoreError}
@@ -21,7 +21,7 @@ use Rattle.station.specs.Beneath.{IsUsedAt}
 use Rattle.station_scan.specs.Moved.{HasReported, IsMoved, IsPutFrom, ScansFrom, SendsFrom, StopsFrom, ReportsFrom, files_reported, from_number, reported_as}
 use Rattle.station_scan.specs.Passing.{AreCounted, AreDropped, AreGoneOrSame, CanSend, HasStaged, IsPartOf, IsStagingTo, IsTakenFor, StopsPassing, all_sent, counts_in, is_made}
 use Rattle.station_scan.specs.{Fitting.AreTaken, Publishing.KeepsStoreBut, Scanning.IsTouched, Scanning.packets_in, Sending.IsStagingOfPacket, Sends.WritesStaging}
-use Rattle.station_scan.specs.{Stops.IsOfPlacing, Stops.IsUnplanned, Stops.most, declared.pieces.Source.Source, declared.publish_error.PublishError.PublishError}
+use Rattle.station_scan.specs.{Stops.IsOfPlacing, Stops.IsUnplanned, Stops.most, declared.pieces.ScanSource.ScanSource, declared.publish_error.PublishError.PublishError}
 use Rattle.station_scan.specs.declared.{counting.LinkPacket.LinkPacket, scan_error.ScanError.ScanError}
 use Rattle.station_scan.specs.declared.scan_error.ScanError.TheVariants.{Command, Placing, Staying, TooFar}
 use Rattle.station_scan.specs.declared.sending.Sending.{Sending}
@@ -169,7 +169,7 @@ unplanned_why failed taken from n (Staying left) same is = absurd is
 
 -- ---- the lines are reported
 
-pub reported : {S : Type 0} (state : S → StoreState) (source : Source) (s0 s1 : StoreState) (f0 f1 : ℕ) (out now : Output) → LooksOn s0 s1 → (packets : List CountedPacket) → f0 ≤ f1 → is_stamp source.stamp ≡ true
+pub reported : {S : Type 0} (state : S → StoreState) (source : ScanSource) (s0 s1 : StoreState) (f0 f1 : ℕ) (out now : Output) → LooksOn s0 s1 → (packets : List CountedPacket) → f0 ≤ f1 → is_stamp source.stamp ≡ true
     → Honestly s1.disk ((base : Base) → s0.keeps base → packets ≡ map counted_of (scanned source.links.now base.messages source.from source.stamp)) → (result : Result (Unit {0}) CommandError)
     → AnswersOn (AreLines (flat_map counted_line packets)) RefusesNone out now result → store_answer result ≡ Ok tt → HasReported state source s0 s1 f0 f1 out now result
 reported state source s0 s1 f0 f1 out now looks packets later stamp counted result answer met = grind (arith, scan_printed)

@@ -9,7 +9,7 @@ use Rattle.disk_atomic.proofs.Packets.{nobody}
 use Rattle.echo_addr.specs.declared.address.Address.{Address}
 use Rattle.echo_packet.specs.Message.{Message}
 use Rattle.cmd_store.specs.PacketLines.{packet_name}
-use Rattle.echo_toss.specs.{Counts.copies_out, Counts.link_set, Exports.Outgoing as Sent}
+use Rattle.echo_toss.specs.{Counts.copies_out, Counts.link_set, Exports.OutgoingMessage as Sent}
 use Rattle.echo_toss.proofs.Counts.{copies_append, has_later}
 use Rattle.base_store.specs.Store.{StoreState}
 use Rattle.station.proofs.StagingPaths.{staging_other}

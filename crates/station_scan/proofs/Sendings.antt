@@ -12,7 +12,7 @@ use Rattle.disk_atomic.specs.declared.placing_error.PlacingError.TheVariants as 
 use Rattle.model_steps.specs.PacketFiles.{PacketFile}
 use Rattle.base_store.specs.Store.{Commits, IsSameStore, LeavesEither, MayCommit, StoreState, all_scanned}
 use Rattle.base_store.proofs.Runs.{same_twice}
-use Rattle.echo_toss.specs.{Counts.link_set, Exports.Outgoing as Sent}
+use Rattle.echo_toss.specs.{Counts.link_set, Exports.OutgoingMessage as Sent}
 use Rattle.station.specs.Beneath.{HoldsAsBefore, IsUsedAt}
 use Rattle.station_scan.specs.Passing.{AreFor, AreGrowing, CanSend, HasPassed, IsGrowingTo, IsStagingTo, all_sent, is_made, links_to}
 use Rattle.station_scan.specs.Publishing.{AreGone, ArePublished, HasPublishCause, IsFreeIn, IsGoingAt, IsPublishedAt, IsTriedWith, KeepsStoreBut, MayPublish, PublishesOn, StopsPublishing, ended_before}

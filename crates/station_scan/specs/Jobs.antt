@@ -4,7 +4,7 @@ use Rattle.disk_io.specs.{Disk.DiskState, Disk.Honestly, Runs.HasCause, Runs.Lea
 use Rattle.disk_atomic.specs.Outgoing.{ArePlaced, IsFree, IsStaged, staged_in}
 use Rattle.disk_atomic.specs.{ListStaged.AreListed, Naming.HasItsPath, Naming.NamesEach, Publishing.HasPlacingCause}
 use Rattle.disk_atomic.specs.declared.{listing.StagedPacket.StagedPacket, outgoing.Outgoing.Outgoing, placing_error.PlacingError.PlacingError, placing_error.PlacingError.TheVariants.Taken}
-use Rattle.echo_toss.specs.Exports.{Outgoing as Sent}
+use Rattle.echo_toss.specs.Exports.{OutgoingMessage as Sent}
 use Rattle.station_scan.specs.{Left.AreFreeLeft, Left.EndsLeft, Passing.AreGrowing, Passing.IsAppending, Publishing.AreGone, Publishing.AreStaged, Publishing.HasStageCause, Publishing.IsTriedWith}
 use Rattle.station_scan.specs.Publishing.{IsWritten, NoneStays, ended_in}
 use Rattle.station_scan.specs.declared.{publish_error.PublishError.PublishError, sending.Sending.Sending, writing.Batch.Batch}

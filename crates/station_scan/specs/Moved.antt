@@ -15,7 +15,7 @@ use Rattle.echo_toss.specs.{Bounds.IsFullWhenRead, PacketsIn.state_in}
 use Rattle.station.specs.Beneath.{HoldsAsBefore}
 use Rattle.station_scan.specs.Sends.{AreSentOn, IsLeftAs, IsOfThese, SendsThese, WasTriedFor, WritesStaging}
 use Rattle.station_scan.specs.{Beneath.IsFullOnWay, Fitting.AreTaken, Passing.AreGoneOrSame, Publishing.KeepsStoreBut, Scanning.packets_in, Sending.IsFreeAt, Sending.IsStagingOfPacket, Stops.IsOfPlacing, Stops.most}
-use Rattle.station_scan.specs.declared.{pieces.Source.Source, sending.Sending.Sending, scan_error.ScanError.ScanError}
+use Rattle.station_scan.specs.declared.{pieces.ScanSource.ScanSource, sending.Sending.Sending, scan_error.ScanError.ScanError}
 use Rattle.station_scan.specs.declared.scan_error.ScanError.TheVariants.{Command, Placing, Staying}
 
 -- The store committed this base, and holds it with the cursor at its end. The number is that of the cursor before.
@@ -70,11 +70,11 @@ abbrev pub from_number : ℕ → Base → Base
 from_number from base = record { messages = base.messages; cursor = from }
 
 -- The packets of a scan if their lines were printed.
-abbrev pub files_reported : Source → Base → Result (Unit {0}) CommandError → Result (List PacketFile) CommandError
+abbrev pub files_reported : ScanSource → Base → Result (Unit {0}) CommandError → Result (List PacketFile) CommandError
 files_reported source base result = files_scanned source.stamp (state_in source.links.now (from_number source.from base)) result
 
 -- The packets of the messages were counted, and their lines printed. The store was looked through.
-pub record HasReported {S : Type 0} (state : S → StoreState) (source : Source) (old new : StoreState) (before now : ℕ) (old_out new_out : Output) (result : Result (Unit {0}) CommandError) : Type 0 where
+pub record HasReported {S : Type 0} (state : S → StoreState) (source : ScanSource) (old new : StoreState) (before now : ℕ) (old_out new_out : Output) (result : Result (Unit {0}) CommandError) : Type 0 where
   pub answers : Honestly new.disk ((base : Base) → old.keeps base → ScansOn source.stamp (state_in source.links.now (from_number source.from base)) old_out new_out (files_reported source base result))
   pub looks : LooksOn old new
   pub many : IsErrOf (store_answer result) error.TooMany → IsFullWhenRead state old

@@ -8,7 +8,7 @@ use Rattle.echo_packet.specs.{Header.header_bytes, Message.messages_bytes}
 use Rattle.model_steps.specs.{Scanning.header_to, Stamps.is_stamp}
 use Rattle.base_file.specs.Base.{Base}
 use Rattle.echo_toss.specs.Counts.{copies_out, counted_to, counted_with, has_messages, link_set}
-use Rattle.echo_toss.specs.{Exports.Outgoing as Sent, Exports.sent_of, declared.counting.CountedPacket.CountedPacket}
+use Rattle.echo_toss.specs.{Exports.OutgoingMessage as Sent, Exports.sent_of, declared.counting.CountedPacket.CountedPacket}
 use Rattle.cmd_store.specs.PacketLines.{packet_name}
 use Rattle.base_store.specs.Store.{StoreState}
 use Rattle.station.specs.Beneath.{AreSettledByOwn, IsUsedAt}

@@ -6,7 +6,7 @@ ghost use Rattle.station_scan.specs.Left.{AreFreeLeft, AreSameLeft, EndsLeft, En
 
 use crate::finding::{LeftPaths, find_left};
 use disk_atomic::{Left, PlacingError, StagedPacket, finish_stopped};
-use disk_io::{Disk, sync_folder_of};
+use disk_io::{Disk, sync_parent_folder};
 use station::OwnPaths;
 use std::alloc::{AllocError, Global};
 
@@ -46,7 +46,7 @@ fn end_these<D: Disk>(
         return Err(PlacingError::Taken);
     }
     // The removals are synced.
-    sync_folder_of(disk, folder)?;
+    sync_parent_folder(disk, folder)?;
     Ok(())
 }
 

@@ -39,7 +39,7 @@ mod staging;
 mod stopping;
 mod writing;
 
-pub use pieces::Source;
+pub use pieces::ScanSource;
 pub use publish_error::PublishError;
 pub use reported::ReportedStore;
 pub use scan_error::ScanError;

@@ -4,7 +4,7 @@ ghost use Rattle.base_file.specs.Base.{Base};
 ghost use Rattle.disk_io.specs.{Device.Failed, Disk.Honestly};
 ghost use Rattle.base_store.specs.Store.{Commits, MayCommit};
 ghost use Rattle.cmd_status.specs.Devices.{output_of};
-ghost use Rattle.echo_toss.specs.Exports.{Outgoing as Sent};
+ghost use Rattle.echo_toss.specs.Exports.{OutgoingMessage as Sent};
 ghost use Rattle.station_scan.specs.{Moved.HasScanCause, Moved.IsMoved, Moved.ScansFrom, Moved.SendsFrom, Passing.CanSend, Passing.HasPassed, Passing.IsMaking};
 ghost use Rattle.station_scan.specs.{Publishing.HasPublishCause, Publishing.KeepsStoreBut, Scanning.IsTouched, Scanning.packets_in, Stops.IsOfBase, Stops.scan_done};
 

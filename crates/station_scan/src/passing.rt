@@ -4,7 +4,7 @@ ghost use Rattle.base_file.specs.Base.{Base};
 ghost use Rattle.disk_io.specs.Disk.{Honestly};
 ghost use Rattle.disk_atomic.specs.Publishing.{HasPlacingCause};
 ghost use Rattle.disk_atomic.specs.declared.placing_error.PlacingError.TheVariants as placing;
-ghost use Rattle.echo_toss.specs.Exports.{Outgoing as Sent};
+ghost use Rattle.echo_toss.specs.Exports.{OutgoingMessage as Sent};
 ghost use Rattle.station_scan.specs.Passing.{AreTakenTo, CanSend, HasPassed, HasStaged, IsBetween, IsMaking, IsPartOf, IsTakenFor, begun_in, copied_in, with_group};
 ghost use Rattle.station_scan.specs.{Fitting.IsOff, Writing.HasStopCause};
 
@@ -17,7 +17,7 @@ use base_store::{Store, StoreError};
 use cmd_status::MessageProgress;
 use disk_atomic::{Outgoing, PlacingError};
 use disk_io::Disk;
-use echo_toss::{Group, group_from};
+use echo_toss::{Group, gather_group};
 use station::{LendStation, OwnPaths};
 use std::alloc::Global;
 
@@ -140,7 +140,7 @@ pub(crate) fn pass_on<'a, 'p, D: Disk, P: LendStation<'a, D>, T: MessageProgress
     let mut at = sending.source.from;
     let mut end = store.len();
     'groups: while at < end {
-        let group = group_from(alloc, links, store, at, end)?;
+        let group = gather_group(alloc, links, store, at, end)?;
         add_group::<D, P>(alloc, &mut store.store, paths, sending, packets, &group)?;
         at = group.next();
         end = store.len();

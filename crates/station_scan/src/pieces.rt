@@ -8,13 +8,13 @@ use disk_io::Watched;
 use echo_addr::Address;
 use echo_links::LinkFile;
 use echo_packet::send_header;
-use echo_toss::{Group, copies_in, header_to};
+use echo_toss::{Group, group_copies, packet_header};
 use model_steps::Stamp;
 use std::alloc::{AllocError, Global};
 
 /// What the packets of a scan are made of: the links, the stamp, and the messages of the store from a number on.
 #[derive(Clone, Copy)]
-pub struct Source<'s> {
+pub struct ScanSource<'s> {
     pub links: &'s LinkFile,
     pub stamp: Stamp,
     pub from: usize,
@@ -23,14 +23,14 @@ pub struct Source<'s> {
 /// The headers of packets.
 #[derive(Drop)]
 pub(crate) struct Headers<'s> {
-    pub source: Source<'s>,
+    pub source: ScanSource<'s>,
 }
 
 impl Pieces for Headers<'_> {
     ghost bytes = { λ headers to. header_bytes (header_to headers.source.links.now headers.source.stamp to) };
 
     fn piece(&self, alloc: Global, to: Address) -> Result<Vec<u8>, AllocError> {
-        let header = header_to(self.source.links, self.source.stamp, to);
+        let header = packet_header(self.source.links, self.source.stamp, to);
         let mut piece = Watched::new(Vec::new(alloc));
         match send_header(&mut piece, &header, &mut 0) {
             Ok(()) => Ok(piece.into_inner()),
@@ -49,7 +49,7 @@ impl Pieces for Copies<'_> {
     ghost bytes = { λ copies to. messages_bytes (copies_out to copies.group.now.sent) };
 
     fn piece(&self, alloc: Global, to: Address) -> Result<Vec<u8>, AllocError> {
-        copies_in(alloc, self.group, to)
+        group_copies(alloc, self.group, to)
     }
 }
 

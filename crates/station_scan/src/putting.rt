@@ -10,7 +10,7 @@ ghost use Rattle.station_scan.specs.{Moved.HasScanCause, Moved.IsMoved, Publishi
 
 use crate::jobs::FinishLeft;
 use crate::outgoing::send_on;
-use crate::pieces::Source;
+use crate::pieces::ScanSource;
 use crate::reported::ReportedStore;
 use crate::reporting::{left_reported, report, reported_as};
 use crate::scan_error::ScanError;
@@ -90,7 +90,7 @@ pub(crate) fn put_moved<
     ensures listing_later { G.failures scan.old.listing ≤ G.failures scan.new.listing }
     ensures cause { HasScanCause P.Kept.state (P.Kept.state store.old.store) (P.Kept.failures store.old.store) (P.Kept.failures store.new.store) result }
 {
-    let source = Source {
+    let source = ScanSource {
         links,
         stamp: scan.stamp,
         from,

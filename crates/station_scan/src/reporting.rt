@@ -4,7 +4,7 @@ ghost use Rattle.cmd_status.specs.Devices.{output_of};
 ghost use Rattle.model_steps.specs.Stamps.{is_stamp};
 ghost use Rattle.station_scan.specs.Moved.{HasReported, left_cause, left_reported, reported_as};
 
-use crate::pieces::Source;
+use crate::pieces::ScanSource;
 use crate::reported::ReportedStore;
 use crate::scan_error::ScanError;
 use base_store::{Store, StoreError};
@@ -12,13 +12,13 @@ use cmd_status::MessageProgress;
 use cmd_store::{CommandError, print_counted};
 use disk_atomic::PlacingError;
 use disk_io::{DiskError, Sink};
-use echo_toss::counted_from;
+use echo_toss::count_packets;
 use std::alloc::Global;
 
 /// Counts the packets of the messages, and prints their lines.
 pub(crate) fn report<'a, S: Store, T: MessageProgress, W: Sink>(
     alloc: Global,
-    source: Source<'_>,
+    source: ScanSource<'_>,
     store: &mut ReportedStore<'_, S, T>,
     out: &mut W,
 ) -> Result<(), CommandError<'a>>
@@ -27,7 +27,7 @@ pub(crate) fn report<'a, S: Store, T: MessageProgress, W: Sink>(
     ensures { HasReported S.state source.entry (S.state store.old.store) (S.state store.new.store) (S.failures store.old.store) (S.failures store.new.store)
         (output_of W.contents W.failures W.holds out.old) (output_of W.contents W.failures W.holds out.new) result }
 {
-    let packets = counted_from(alloc, source.links, store, source.from)?;
+    let packets = count_packets(alloc, source.links, store, source.from)?;
     print_counted(alloc, &packets, out)
 }
 

@@ -4,7 +4,7 @@ ghost use Rattle.disk_atomic.specs.StagingPaths.{staging_path};
 ghost use Rattle.echo_toss.specs.Counts.{link_set};
 ghost use Rattle.station_scan.specs.{Sending.IsPlanned, Sending.IsSized, Sending.route_to, Sending.two_paths, Stops.IsUnplanned, Stops.most};
 
-use crate::pieces::Source;
+use crate::pieces::ScanSource;
 use crate::scan_error::ScanError;
 use cmd_store::packet_name;
 use disk_atomic::staging_path;
@@ -46,7 +46,7 @@ pub(crate) struct Sending<'p> {
     pub own: &'p [u8],
     pub trial: &'p [u8],
     pub routes: &'p [Route],
-    pub source: Source<'p>,
+    pub source: ScanSource<'p>,
 }
 
 /// The two paths of a packet of this name in this folder.

@@ -5,7 +5,7 @@ ghost use Rattle.disk_atomic.specs.{Changes.ChangesOnly, Outgoing.ArePlaced, Out
 ghost use Rattle.station_scan.specs.Publishing.{AreOpen, AreStaged, IsTrial, IsTriedWith, IsWritten};
 
 use disk_atomic::{Outgoing, sync_packets, try_link};
-use disk_io::{Disk, DiskError, sync_folder_of};
+use disk_io::{Disk, DiskError, sync_parent_folder};
 
 // Gives the first of the packets, which are in staging files, the tried path, and removes that path again. Then the
 // folder is synced.
@@ -26,7 +26,7 @@ fn try_first<D: Disk>(
     ensures cause { HasCause (D.failures disk.old) (D.failures disk.new) result }
 {
     if packets.is_empty() {
-        sync_folder_of(disk, outbound)?;
+        sync_parent_folder(disk, outbound)?;
         return Ok(true);
     }
     let first = &packets[0];

@@ -13,7 +13,7 @@ use std::alloc::{AllocError, Global};
 const LIMIT: usize = 1 << 40;
 
 #[derive(Debug, Drop)]
-pub(crate) struct Base {
+pub(crate) struct TestBase {
     pub(crate) messages: Vec<u8>,
     pub(crate) keys: Vec<u8>,
     pub(crate) cursor: u64,
@@ -30,8 +30,8 @@ pub(crate) struct Change {
     pub(crate) mark: FolderIdentity,
 }
 
-impl Base {
-    pub(crate) fn changed(&self, alloc: Global, change: &Change) -> Result<Base, AllocError> {
+impl TestBase {
+    pub(crate) fn changed(&self, alloc: Global, change: &Change) -> Result<TestBase, AllocError> {
         let mut messages = Vec::new(alloc);
         let mut keys = Vec::new(alloc);
         if !change.anew {
@@ -40,7 +40,7 @@ impl Base {
         }
         messages.extend_from_slice(&change.messages)?;
         keys.extend_from_slice(&change.keys)?;
-        Ok(Base {
+        Ok(TestBase {
             messages,
             keys,
             cursor: change.cursor,
@@ -48,7 +48,7 @@ impl Base {
         })
     }
 
-    pub(crate) fn is(&self, other: &Base) -> bool {
+    pub(crate) fn is(&self, other: &TestBase) -> bool {
         self.messages.as_slice() == other.messages.as_slice()
             && self.keys.as_slice() == other.keys.as_slice()
             && self.cursor == other.cursor
@@ -193,12 +193,12 @@ pub(crate) fn read_base<D: Disk>(
     disk: &mut D,
     folder: &[u8],
     end: End,
-) -> Result<Base, FolderError> {
+) -> Result<TestBase, FolderError> {
     if end.recorded.number > 9 {
         return Err(FolderError::Corrupt);
     }
     let names = Names::new(alloc, folder, end.recorded.number)?;
-    Ok(Base {
+    Ok(TestBase {
         messages: read_front(alloc, disk, &names.messages, end.recorded.messages)?,
         keys: read_front(alloc, disk, &names.keys, end.recorded.keys)?,
         cursor: end.recorded.cursor,

@@ -1,5 +1,5 @@
 //! A base folder on files of the system.
-use crate::bases::{Base, Change, change_folder, open_folder, read_base};
+use crate::bases::{Change, TestBase, change_folder, open_folder, read_base};
 use base_log::{FolderError, FolderIdentity};
 use disk_system::{RealDisk, Unknown};
 use std::alloc::{AllocError, Global};
@@ -53,7 +53,7 @@ fn a_base_folder_is_opened_again_and_not_with_a_log_cut_short(rt: HostRuntime) -
     fs::create_dir(&rt, "disk_tests_base")?;
     let first = first_change(alloc)?;
     let second = second_change(alloc)?;
-    let empty = Base {
+    let empty = TestBase {
         messages: Vec::new(alloc),
         keys: Vec::new(alloc),
         cursor: 0,

@@ -1,12 +1,12 @@
 //! Packet files that another program cuts while they are read.
 ghost use Rattle.std.specs.Prelude.{true};
 
-use crate::system_files::disk::{Disk, State};
+use crate::system_files::disk::{Disk, FilesState};
 use cmd_status::{Fault, PacketName, StreamPackets};
 use cmd_store::PacketFiles;
 use disk_io::Source;
 use disk_system::{NoFiles, RealDisk};
-use station::{PacketReader, packets_on_disk};
+use station::{PacketSource, packets_on_disk};
 use std::cell::RefCell;
 use std::test::Fail;
 
@@ -52,7 +52,7 @@ fn a_packet_that_is_cut_is_not_filled_up(rt: HostRuntime) -> Result<(), Fail> {
     let names = [Named { name: "a.pkt" }];
     let mut is_streamed = false;
     for call in 0..CALLS {
-        let mut state = State::new(alloc, CALLS, CALLS);
+        let mut state = FilesState::new(alloc, CALLS, CALLS);
         state.put("a.pkt", WHOLE)?;
         state.cut = Some((call, FRONT.len()));
         let files = RefCell::new(state);
@@ -61,7 +61,7 @@ fn a_packet_that_is_cut_is_not_filled_up(rt: HostRuntime) -> Result<(), Fail> {
         let Some(Ok(reader)) = packets.open_next() else {
             return Err(Fail::from("not opened"));
         };
-        if matches!(reader, PacketReader::Streamed(_)) {
+        if matches!(reader, PacketSource::Streamed(_)) {
             is_streamed = true;
         } else {
             let bytes = reader.held();

@@ -1,7 +1,7 @@
 //! Files read and made whole, on a file system of which each call fails in turn.
 pub(crate) mod disk;
 
-use disk::{Disk, State};
+use disk::{Disk, FilesState};
 use disk_io::{Trial, Watched};
 use disk_system::{
     InputFault, NewFile, OWNER_ALONE, OutputFault, create_file, flush_folder, read_file, read_whole,
@@ -34,15 +34,15 @@ fn state(
     alloc: Global,
     fails: (u64, u64),
     files: &[(&str, &[u8])],
-) -> Result<RefCell<State>, Fail> {
-    let mut state = State::new(alloc, fails.0, fails.1);
+) -> Result<RefCell<FilesState>, Fail> {
+    let mut state = FilesState::new(alloc, fails.0, fails.1);
     for (name, bytes) in files {
         state.put(name, bytes)?;
     }
     Ok(RefCell::new(state))
 }
 
-fn holds(state: &RefCell<State>, name: &str, bytes: Option<&[u8]>) -> Result<bool, Fail> {
+fn holds(state: &RefCell<FilesState>, name: &str, bytes: Option<&[u8]>) -> Result<bool, Fail> {
     let state = state.try_borrow().map_err(|_| Fail::from("borrowed"))?;
     Ok(state.bytes(name) == bytes)
 }
@@ -155,7 +155,7 @@ fn removes_what_a_power_cut_left(rt: HostRuntime) -> Result<(), Fail> {
 fn created(
     alloc: Global,
     fails: (u64, u64),
-) -> Result<(Result<(), OutputFault>, RefCell<State>), Fail> {
+) -> Result<(Result<(), OutputFault>, RefCell<FilesState>), Fail> {
     let state = state(alloc, fails, &[])?;
     let answer = create_file(alloc, &Disk::new(&state), new_at("a.pkt"));
     Ok((answer, state))
@@ -188,7 +188,7 @@ fn stops_at_a_call(rt: HostRuntime) -> Result<(), Fail> {
     Ok(())
 }
 
-fn flushed_at(state: &RefCell<State>) -> Result<Option<u64>, Fail> {
+fn flushed_at(state: &RefCell<FilesState>) -> Result<Option<u64>, Fail> {
     let state = state.try_borrow().map_err(|_| Fail::from("borrowed"))?;
     Ok(state.flushed_at)
 }

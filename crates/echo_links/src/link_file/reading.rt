@@ -23,13 +23,13 @@ const AREA: &[u8] = b"AREA";
 const MOST: usize = 40;
 
 #[derive(Drop)]
-pub(super) struct Reading {
+pub(super) struct LinkFileParts {
     pub(super) system: Option<Address>,
     pub(super) name: Option<Items<u8>>,
     pub(super) areas: Areas,
 }
 
-impl Reading {
+impl LinkFileParts {
     fn take(&mut self, alloc: Global, number: u64, line: &[u8]) -> Result<(), LinkFault>
         ensures { (earlier : List (List ℕ)) → Knows earlier self.old → TakesLine earlier number line.now self.old self.new result }
     {
@@ -110,10 +110,10 @@ impl Reading {
     }
 }
 
-pub(super) fn read_lines(alloc: Global, bytes: &[u8]) -> Result<Reading, LinkFault>
+pub(super) fn read_lines(alloc: Global, bytes: &[u8]) -> Result<LinkFileParts, LinkFault>
     ensures { ReadsLinkFile bytes.now result }
 {
-    let mut reading = Reading {
+    let mut reading = LinkFileParts {
         system: None,
         name: None,
         areas: Areas::new(alloc),

@@ -13,16 +13,16 @@ const PIECE: usize = 4;
 const FOLDER: &str = ".";
 
 #[derive(Drop)]
-struct Kept {
+struct FileContent {
     name: String,
     bytes: Vec<u8>,
 }
 
 /// The files, how many calls came, and which of them fail.
 #[derive(Drop)]
-pub struct State {
+pub struct FilesState {
     alloc: Global,
-    files: Vec<Kept>,
+    files: Vec<FileContent>,
     calls: u64,
     from: u64,
     to: u64,
@@ -31,10 +31,10 @@ pub struct State {
     pub cut: Option<(u64, usize)>,
 }
 
-impl State {
+impl FilesState {
     /// No files; the calls from this number on and before that one fail.
-    pub fn new(alloc: Global, from: u64, to: u64) -> State {
-        State {
+    pub fn new(alloc: Global, from: u64, to: u64) -> FilesState {
+        FilesState {
             alloc,
             files: Vec::new(alloc),
             calls: 0,
@@ -49,7 +49,7 @@ impl State {
     pub fn put(&mut self, name: &str, bytes: &[u8]) -> Result<(), AllocError> {
         let name = String::from_str(self.alloc, name)?;
         let bytes = Vec::from_slice(self.alloc, bytes)?;
-        self.files.push(Kept { name, bytes })?;
+        self.files.push(FileContent { name, bytes })?;
         Ok(())
     }
 
@@ -117,16 +117,16 @@ impl State {
 /// The file system of a state.
 #[derive(Clone, Copy)]
 pub struct Disk<'a> {
-    state: &'a RefCell<State>,
+    state: &'a RefCell<FilesState>,
 }
 
 impl<'a> Disk<'a> {
-    pub fn new(state: &'a RefCell<State>) -> Disk<'a> {
+    pub fn new(state: &'a RefCell<FilesState>) -> Disk<'a> {
         Disk { state }
     }
 }
 
-fn called<'b>(state: &'b RefCell<State>) -> io::Result<RefMut<'b, State>> {
+fn called<'b>(state: &'b RefCell<FilesState>) -> io::Result<RefMut<'b, FilesState>> {
     match state.try_borrow_mut() {
         Ok(mut state) => {
             state.count()?;
@@ -139,7 +139,7 @@ fn called<'b>(state: &'b RefCell<State>) -> io::Result<RefMut<'b, State>> {
 /// An open file of a disk.
 #[derive(Drop)]
 pub struct Opened<'a> {
-    state: &'a RefCell<State>,
+    state: &'a RefCell<FilesState>,
     name: String,
     at: usize,
 }

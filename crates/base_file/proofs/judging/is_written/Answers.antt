@@ -10,4 +10,4 @@ returns c =
     let e = c.args.echo.now in
     c.eq-same.ensures
     ∙ ap (λ l. bytes_eq l c.args.text.now)
-    (c.as_slice.ensures.value ∙ one_text e c.write_text_into.new.text.items (text_of e) c.in_ok-write_text_into.ensures (text_is_text e c.requires))
+    (c.as_slice.ensures.value ∙ one_text e c.overwrite_text.new.text.items (text_of e) c.in_ok-overwrite_text.ensures (text_is_text e c.requires))

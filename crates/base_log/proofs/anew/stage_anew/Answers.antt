@@ -94,29 +94,29 @@ returns-in_err-create-2-clause-same g c honest = same_base_left c.requires.free.
 pub returns-in_err-create-2-clause-others : goal.returns-in_err-create-2-clause-others
 returns-in_err-create-2-clause-others g c = (both_made g (goal.at.returns-in_err-create-2-clause-others g c).After-create-2 (messages_made g (goal.at.returns-in_err-create-2-clause-others g c).After-create)).others
 
-pub returns-in_err-sync_folder_of-clause-run : goal.returns-in_err-sync_folder_of-clause-run
-returns-in_err-sync_folder_of-clause-run g c = (then_quiet (g.D.Disk.state c.sync_folder_of.new.disk) (both_made g (goal.at.returns-in_err-sync_folder_of-clause-run g c).After-create-2 (messages_made g (goal.at.returns-in_err-sync_folder_of-clause-run g c).After-create)) c.sync_folder_of.ensures.quiet).run
+pub returns-in_err-sync_parent_folder-clause-run : goal.returns-in_err-sync_parent_folder-clause-run
+returns-in_err-sync_parent_folder-clause-run g c = (then_quiet (g.D.Disk.state c.sync_parent_folder.new.disk) (both_made g (goal.at.returns-in_err-sync_parent_folder-clause-run g c).After-create-2 (messages_made g (goal.at.returns-in_err-sync_parent_folder-clause-run g c).After-create)) c.sync_parent_folder.ensures.quiet).run
 
-pub returns-in_err-sync_folder_of-clause-same : goal.returns-in_err-sync_folder_of-clause-same
-returns-in_err-sync_folder_of-clause-same g c honest = same_base_left c.requires.free.other (then_quiet (g.D.Disk.state c.sync_folder_of.new.disk) (both_made g (goal.at.returns-in_err-sync_folder_of-clause-same g c).After-create-2 (messages_made g (goal.at.returns-in_err-sync_folder_of-clause-same g c).After-create)) c.sync_folder_of.ensures.quiet)
+pub returns-in_err-sync_parent_folder-clause-same : goal.returns-in_err-sync_parent_folder-clause-same
+returns-in_err-sync_parent_folder-clause-same g c honest = same_base_left c.requires.free.other (then_quiet (g.D.Disk.state c.sync_parent_folder.new.disk) (both_made g (goal.at.returns-in_err-sync_parent_folder-clause-same g c).After-create-2 (messages_made g (goal.at.returns-in_err-sync_parent_folder-clause-same g c).After-create)) c.sync_parent_folder.ensures.quiet)
 
-pub returns-in_err-sync_folder_of-clause-others : goal.returns-in_err-sync_folder_of-clause-others
-returns-in_err-sync_folder_of-clause-others g c = (then_quiet (g.D.Disk.state c.sync_folder_of.new.disk) (both_made g (goal.at.returns-in_err-sync_folder_of-clause-others g c).After-create-2 (messages_made g (goal.at.returns-in_err-sync_folder_of-clause-others g c).After-create)) c.sync_folder_of.ensures.quiet).others
+pub returns-in_err-sync_parent_folder-clause-others : goal.returns-in_err-sync_parent_folder-clause-others
+returns-in_err-sync_parent_folder-clause-others g c = (then_quiet (g.D.Disk.state c.sync_parent_folder.new.disk) (both_made g (goal.at.returns-in_err-sync_parent_folder-clause-others g c).After-create-2 (messages_made g (goal.at.returns-in_err-sync_parent_folder-clause-others g c).After-create)) c.sync_parent_folder.ensures.quiet).others
 
 pub returns-clause-run : goal.returns-clause-run
-returns-clause-run g c = (then_quiet (g.D.Disk.state c.sync_folder_of.new.disk) (both_made g (goal.at.returns-clause-run g c).After-create-2 (messages_made g (goal.at.returns-clause-run g c).After-create)) c.sync_folder_of.ensures.quiet).run
+returns-clause-run g c = (then_quiet (g.D.Disk.state c.sync_parent_folder.new.disk) (both_made g (goal.at.returns-clause-run g c).After-create-2 (messages_made g (goal.at.returns-clause-run g c).After-create)) c.sync_parent_folder.ensures.quiet).run
 
 pub returns-clause-same : goal.returns-clause-same
-returns-clause-same g c honest = same_base_left c.requires.free.other (then_quiet (g.D.Disk.state c.sync_folder_of.new.disk) (both_made g (goal.at.returns-clause-same g c).After-create-2 (messages_made g (goal.at.returns-clause-same g c).After-create)) c.sync_folder_of.ensures.quiet)
+returns-clause-same g c honest = same_base_left c.requires.free.other (then_quiet (g.D.Disk.state c.sync_parent_folder.new.disk) (both_made g (goal.at.returns-clause-same g c).After-create-2 (messages_made g (goal.at.returns-clause-same g c).After-create)) c.sync_parent_folder.ensures.quiet)
 
 pub returns-clause-others : goal.returns-clause-others
-returns-clause-others g c = (then_quiet (g.D.Disk.state c.sync_folder_of.new.disk) (both_made g (goal.at.returns-clause-others g c).After-create-2 (messages_made g (goal.at.returns-clause-others g c).After-create)) c.sync_folder_of.ensures.quiet).others
+returns-clause-others g c = (then_quiet (g.D.Disk.state c.sync_parent_folder.new.disk) (both_made g (goal.at.returns-clause-others g c).After-create-2 (messages_made g (goal.at.returns-clause-others g c).After-create)) c.sync_parent_folder.ensures.quiet).others
 
 pub returns-clause-staged : goal.returns-clause-staged
 returns-clause-staged g c honest =
     let one = messages_made g (goal.at.returns-clause-staged g c).After-create in
     let two = keys_made g (goal.at.returns-clause-staged g c).After-create-2 in
-    let quiet = c.sync_folder_of.ensures.quiet in
+    let quiet = c.sync_parent_folder.ensures.quiet in
     let path = folder_of c.args.names.now in
     let end = c.args.end in
     let number = c.args.number in
@@ -125,7 +125,7 @@ returns-clause-staged g c honest =
     let d0 = g.D.Disk.state c.args.disk.now in
     let d1 = g.D.Disk.state c.create.new.self in
     let d2 = g.D.Disk.state c.create-2.new.self in
-    let d3 = g.D.Disk.state c.sync_folder_of.new.disk in
+    let d3 = g.D.Disk.state c.sync_parent_folder.new.disk in
     let made = then_quiet d3 (both_made g (goal.at.returns-clause-staged g c).After-create-2 one) quiet in
     let rest = c.requires.settled (one.time.honest (two.time.honest (quiet.honest honest))) in
     let same : base_at d3 path end.recorded ≡ base_at d0 path end.recorded = same_base_left c.requires.free.other made in
@@ -137,7 +137,7 @@ returns-clause-staged g c honest =
     let m_made : d3.seen m ≡ Some [] = quiet.seen m ∙ two.others m (messages_not_keys path number number) ∙ subst (λ (l : List ℕ). d1.seen l ≡ Some []) messages c.in_ok-create.ensures.made in
     let k_made : d3.seen k ≡ Some [] = quiet.seen k ∙ subst (λ (l : List ℕ). d2.seen l ≡ Some []) keys c.in_ok-create-2.ensures.made in
     record {
-      log = log_moved d0 d3 path end rest.log log_seen on (subst (λ (p : List ℕ). (n : List ℕ) → IsIn p n → d3.is_named n) c.deref-3.ensures.value c.in_ok-sync_folder_of.ensures.durable);
+      log = log_moved d0 d3 path end rest.log log_seen on (subst (λ (p : List ℕ). (n : List ℕ) → IsIn p n → d3.is_named n) c.deref-3.ensures.value c.in_ok-sync_parent_folder.ensures.durable);
       represented = λ f left. subst (λ (b : BaseBytes). Represents path b f) (sym same) (left_now d0 d3 (RepresentsAlone path d0 (base_at d0 path end.recorded)) (made.run.any_moment honest) f left).represented;
       shown = subst (λ (b : BaseBytes). Represents path b d3.seen) (sym same) (rest_same d0 path end rest d3.seen log_seen (messages_same c.requires.free.other made) (keys_same c.requires.free.other made));
       digit = c.requires.free.digit;

@@ -91,36 +91,36 @@ pub returns-in_err-create-2-clause-outside : goal.returns-in_err-create-2-clause
 returns-in_err-create-2-clause-outside g c = let at = goal.at.returns-in_err-create-2-clause-outside g c in (both_made g at.After-create-2 (messages_made g at.After-create) (one_made g at.After-create)).outside
 
 pub returns-clause-any_moment : goal.returns-clause-any_moment
-returns-clause-any_moment g c = let at = goal.at.returns-clause-any_moment g c in (then_quiet (g.D.Disk.state c.sync_folder_of.new.disk) (both_made g at.After-create-2 (messages_made g at.After-create) (one_made g at.After-create)) c.sync_folder_of.ensures.quiet).any_moment
+returns-clause-any_moment g c = let at = goal.at.returns-clause-any_moment g c in (then_quiet (g.D.Disk.state c.sync_parent_folder.new.disk) (both_made g at.After-create-2 (messages_made g at.After-create) (one_made g at.After-create)) c.sync_parent_folder.ensures.quiet).any_moment
 
 pub returns-clause-log : goal.returns-clause-log
-returns-clause-log g c = let at = goal.at.returns-clause-log g c in (then_quiet (g.D.Disk.state c.sync_folder_of.new.disk) (both_made g at.After-create-2 (messages_made g at.After-create) (one_made g at.After-create)) c.sync_folder_of.ensures.quiet).log
+returns-clause-log g c = let at = goal.at.returns-clause-log g c in (then_quiet (g.D.Disk.state c.sync_parent_folder.new.disk) (both_made g at.After-create-2 (messages_made g at.After-create) (one_made g at.After-create)) c.sync_parent_folder.ensures.quiet).log
 
 pub returns-clause-same : goal.returns-clause-same
-returns-clause-same g c = let at = goal.at.returns-clause-same g c in (then_quiet (g.D.Disk.state c.sync_folder_of.new.disk) (both_made g at.After-create-2 (messages_made g at.After-create) (one_made g at.After-create)) c.sync_folder_of.ensures.quiet).same
+returns-clause-same g c = let at = goal.at.returns-clause-same g c in (then_quiet (g.D.Disk.state c.sync_parent_folder.new.disk) (both_made g at.After-create-2 (messages_made g at.After-create) (one_made g at.After-create)) c.sync_parent_folder.ensures.quiet).same
 
 pub returns-clause-outside : goal.returns-clause-outside
-returns-clause-outside g c = let at = goal.at.returns-clause-outside g c in (then_quiet (g.D.Disk.state c.sync_folder_of.new.disk) (both_made g at.After-create-2 (messages_made g at.After-create) (one_made g at.After-create)) c.sync_folder_of.ensures.quiet).outside
+returns-clause-outside g c = let at = goal.at.returns-clause-outside g c in (then_quiet (g.D.Disk.state c.sync_parent_folder.new.disk) (both_made g at.After-create-2 (messages_made g at.After-create) (one_made g at.After-create)) c.sync_parent_folder.ensures.quiet).outside
 
 pub returns-clause-made : goal.returns-clause-made
 returns-clause-made g c =
     let two = keys_made g (goal.at.returns-clause-made g c).After-create-2 in
-    let quiet = c.sync_folder_of.ensures.quiet in
+    let quiet = c.sync_parent_folder.ensures.quiet in
     let path = folder_of c.args.names.now in
     let d1 = g.D.Disk.state c.create.new.self in
     let d2 = g.D.Disk.state c.create-2.new.self in
-    let d3 = g.D.Disk.state c.sync_folder_of.new.disk in
+    let d3 = g.D.Disk.state c.sync_parent_folder.new.disk in
     let m = messages_of path 0 in
     let k = keys_of path 0 in
     let messages : c.deref.result.now ≡ m = c.deref.ensures.value ∙ c.requires.names.messages in
     let keys : c.deref-2.result.now ≡ k = c.deref-2.ensures.value ∙ c.requires.names.keys in
     let m_made : d3.seen m ≡ Some [] = quiet.seen m ∙ two.others m (messages_not_keys path 0 0) ∙ subst (λ (l : List ℕ). d1.seen l ≡ Some []) messages c.in_ok-create.ensures.made in
     let k_made : d3.seen k ≡ Some [] = quiet.seen k ∙ subst (λ (l : List ℕ). d2.seen l ≡ Some []) keys c.in_ok-create-2.ensures.made in
-    on_ok_weaker {P = (n : List ℕ) → IsIn c.deref-3.result.now n → d3.is_named n} c.sync_folder_of.result
+    on_ok_weaker {P = (n : List ℕ) → IsIn c.deref-3.result.now n → d3.is_named n} c.sync_parent_folder.result
     (λ named. record {
       messages = subst (λ (f : Option (List ℕ)). IsSome f) (sym m_made) refl;
       keys = subst (λ (f : Option (List ℕ)). IsSome f) (sym k_made) refl;
       messages_alone = quiet.alone m (λ h. h) (two.alone m (messages_not_keys path 0 0) (subst (λ (l : List ℕ). d1.is_alone l) messages c.in_ok-create.ensures.own));
       keys_alone = quiet.alone k (λ h. h) (subst (λ (l : List ℕ). d2.is_alone l) keys c.in_ok-create-2.ensures.own);
       named = subst (λ (p : List ℕ). (n : List ℕ) → IsIn p n → d3.is_named n) c.deref-3.ensures.value named;
-    }) c.sync_folder_of.ensures.durable
+    }) c.sync_parent_folder.ensures.durable

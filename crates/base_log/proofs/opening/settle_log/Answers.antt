@@ -25,7 +25,7 @@ both_synced : (g : given.Over) (c : After-sync g) → Leaves (folder_of c.args.n
 both_synced g c = grind (arith, by_quiet, nothing_twice)
 
 log_made : (g : given.Over) (c : After-make_log g) → Leaves (folder_of c.args.names.now) (g.D.Disk.state c.args.disk.now) (g.D.Disk.state c.make_log.new.disk)
-log_made g c = after_quiet (g.D.Disk.state c.args.disk.now) c.sync_folder_of.ensures.quiet (record { others = c.make_log.ensures.others; any_moment = c.make_log.ensures.any_moment })
+log_made g c = after_quiet (g.D.Disk.state c.args.disk.now) c.sync_parent_folder.ensures.quiet (record { others = c.make_log.ensures.others; any_moment = c.make_log.ensures.any_moment })
 
 pub sync-requires : goal.sync-requires
 sync-requires g c honest = grind (arith, some_there)
@@ -33,11 +33,11 @@ sync-requires g c honest = grind (arith, some_there)
 pub make_log-requires-clause-new : goal.make_log-requires-clause-new
 make_log-requires-clause-new g c honest = grind (arith, new_quiet, ⊎_elim)
 
-pub returns-in_err-sync_folder_of-clause-others : goal.returns-in_err-sync_folder_of-clause-others
-returns-in_err-sync_folder_of-clause-others g c = (by_quiet (folder_of c.args.names.now) (g.D.Disk.state c.args.disk.now) (g.D.Disk.state c.sync_folder_of.new.disk) c.sync_folder_of.ensures.quiet).others
+pub returns-in_err-sync_parent_folder-clause-others : goal.returns-in_err-sync_parent_folder-clause-others
+returns-in_err-sync_parent_folder-clause-others g c = (by_quiet (folder_of c.args.names.now) (g.D.Disk.state c.args.disk.now) (g.D.Disk.state c.sync_parent_folder.new.disk) c.sync_parent_folder.ensures.quiet).others
 
-pub returns-in_err-sync_folder_of-clause-any_moment : goal.returns-in_err-sync_folder_of-clause-any_moment
-returns-in_err-sync_folder_of-clause-any_moment g c = (by_quiet (folder_of c.args.names.now) (g.D.Disk.state c.args.disk.now) (g.D.Disk.state c.sync_folder_of.new.disk) c.sync_folder_of.ensures.quiet).any_moment
+pub returns-in_err-sync_parent_folder-clause-any_moment : goal.returns-in_err-sync_parent_folder-clause-any_moment
+returns-in_err-sync_parent_folder-clause-any_moment g c = (by_quiet (folder_of c.args.names.now) (g.D.Disk.state c.args.disk.now) (g.D.Disk.state c.sync_parent_folder.new.disk) c.sync_parent_folder.ensures.quiet).any_moment
 
 pub returns-in_err-sync-clause-others : goal.returns-in_err-sync-clause-others
 returns-in_err-sync-clause-others g c = (both_synced g (goal.at.returns-in_err-sync-clause-others g c).After-sync).others
@@ -66,7 +66,7 @@ pub returns-clause-log : goal.returns-clause-log
 returns-clause-log g c honest =
     let path = folder_of c.args.names.now in
     let h1 = c.make_log.ensures.others.honest honest in
-    let h0 = c.sync_folder_of.ensures.quiet.honest h1 in
+    let h0 = c.sync_parent_folder.ensures.quiet.honest h1 in
     let d0 = g.D.Disk.state c.args.disk.now in
     let log = c.args.log.now in
     let new = ⊎_elim (λ (shut : IsShutAt log.end.records_len log.bytes.items). absurd (cc (c.is_shut.ensures.1 shut, c.if-is_shut.false))) (λ (new : IsNew path d0.seen). new) (c.requires.ended h0) in

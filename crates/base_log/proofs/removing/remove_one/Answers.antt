@@ -74,21 +74,21 @@ returns g c =
     let d0 = g.D.Disk.state c.args.disk.now in
     let d1 = g.D.Disk.state c.exists.new.self in
     let d2 = g.D.Disk.state c.remove.new.self in
-    let d3 = g.D.Disk.state c.sync_folder_of.new.disk in
+    let d3 = g.D.Disk.state c.sync_parent_folder.new.disk in
     let file = c.args.file.now in
     let path = c.args.folder.now in
     let looked = c.exists.ensures.quiet in
     let changes = c.remove.ensures.changes in
-    let synced = c.sync_folder_of.ensures.quiet in
+    let synced = c.sync_parent_folder.ensures.quiet in
     let removed = but_one_twice d0 d1 d2 file (but_one_quiet d0 d1 file looked) (but_one_call d1 d2 file changes) in
     let kept = but_one_twice d0 d2 d3 file removed (but_one_quiet d2 d3 file synced) in
     let left = left_twice path d0 d1 d2 (λ m out. looked.named m (λ h. h)) (left_quiet path d0 d1 looked) (left_call path file d1 d2 TornRemoval c.requires.file.inside changes) in
     let outside = outside_but_one path d0 d2 file c.requires.file.inside removed in
     record {
       settled = λ honest.
-          on_ok_weaker {P = (m : List ℕ) → IsIn path m → d3.is_named m} c.sync_folder_of.result
-          (λ named. rest_others d0 d3 path c.args.end file c.requires.file (c.requires.settled (kept.honest honest)) kept named) c.sync_folder_of.ensures.durable;
-      gone = λ honest. on_ok_weaker {P = (m : List ℕ) → IsIn path m → d3.is_named m} c.sync_folder_of.result (λ named. synced.seen file ∙ c.in_ok-remove.ensures.gone) c.sync_folder_of.ensures.durable;
+          on_ok_weaker {P = (m : List ℕ) → IsIn path m → d3.is_named m} c.sync_parent_folder.result
+          (λ named. rest_others d0 d3 path c.args.end file c.requires.file (c.requires.settled (kept.honest honest)) kept named) c.sync_parent_folder.ensures.durable;
+      gone = λ honest. on_ok_weaker {P = (m : List ℕ) → IsIn path m → d3.is_named m} c.sync_parent_folder.result (λ named. synced.seen file ∙ c.in_ok-remove.ensures.gone) c.sync_parent_folder.ensures.durable;
       others = kept.seen;
       run = record {
         any_moment = λ honest.
@@ -96,5 +96,5 @@ returns g c =
         outside = outside_but_one path d0 d3 file c.requires.file.inside kept;
       };
       leaves = left_twice path d0 d2 d3 outside.named left (left_quiet path d2 d3 synced);
-      cause = cause_since (g.D.Disk.failures c.args.disk.now) (g.D.Disk.failures c.remove.new.self) (g.D.Disk.failures c.sync_folder_of.new.disk) c.sync_folder_of.result (omega arith) c.sync_folder_of.ensures.cause;
+      cause = cause_since (g.D.Disk.failures c.args.disk.now) (g.D.Disk.failures c.remove.new.self) (g.D.Disk.failures c.sync_parent_folder.new.disk) c.sync_parent_folder.result (omega arith) c.sync_parent_folder.ensures.cause;
     }

@@ -19,8 +19,8 @@ pub returns : goal.returns
 returns g c nodelist given inputs is_list are raised =
     let verdict = c.in_ok-verdict.verdict in
     let found = c.in_ok-verdict.ensures in
-    let right = was_checked nodelist _ c.args.more given c.args.tag.now inputs c.args.links.now verdict _ _ c.status_of.result
-    is_list are raised (record { tidy = found.tidy; counted = found.counted; first = found.first }) found.orderly c.new-lines.ensures.items c.in_ok-push_check.ensures c.status_of.ensures in
+    let right = was_checked nodelist _ c.args.more given c.args.tag.now inputs c.args.links.now verdict _ _ c.check_status.result
+    is_list are raised (record { tidy = found.tidy; counted = found.counted; first = found.first }) found.orderly c.new-lines.ensures.items c.in_ok-push_check.ensures c.check_status.ensures in
     record {
       lines = c.push_check.new.lines.items;
       right = (right, refl);

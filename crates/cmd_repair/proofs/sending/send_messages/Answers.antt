@@ -16,8 +16,8 @@ messages-init g c =
     let to = repair.to in
     let held = option_copied repair.held in
     let first = c.args.first in
-    let begin = c.begin_at-i.result in
-    let start : begin ≤ first = not_past first c.count-count.result begin c.begin_at-i.ensures.within c.begin_at-i.ensures.behind in
+    let begin = c.start_number-i.result in
+    let start : begin ≤ first = not_past first c.count-count.result begin c.start_number-i.ensures.within c.start_number-i.ensures.behind in
     record {
       ready = c.requires;
       many = sym c.count-count.ensures.count;
@@ -25,8 +25,8 @@ messages-init g c =
       held = λ base held. held;
       since = λ j is. is;
       read = λ honest j from less. absurd (omega (arith, from, less, start));
-      from = λ less. ⊎_elim (λ (h : first < c.count-count.result). let is = c.begin_at-i.ensures.within h in omega (arith, is))
-          (λ (h : c.count-count.result ≤ first). let is = c.begin_at-i.ensures.behind h in absurd (omega (arith, is, less))) (cases_lt first c.count-count.result);
+      from = λ less. ⊎_elim (λ (h : first < c.count-count.result). let is = c.start_number-i.ensures.within h in omega (arith, is))
+          (λ (h : c.count-count.result ≤ first). let is = c.start_number-i.ensures.behind h in absurd (omega (arith, is, less))) (cases_lt first c.count-count.result);
       later = omega arith;
       sent = λ honest base holds. none_sent file area to held first base.messages (g.W.Write.contents c.args.out.now) c.args.piece.now.items begin start;
       counted = λ honest base holds. c.empty-counted.ensures ∙ none_counted file area to held first base.messages (nothing_counted to) begin start;

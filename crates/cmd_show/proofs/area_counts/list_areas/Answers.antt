@@ -8,6 +8,6 @@ pub returns : goal.returns
 returns g c =
     let base = c.in_ok-messages.messages.base in
     at_once (AreListed base) (AreAreasListed c.args.base.now) (IsBaseFault (Some c.args.base.now)) _
-    (output_of g.W.Write.contents g.W.Sink.failures g.W.Sink.holds c.args.out.now) (output_of g.W.Write.contents g.W.Sink.failures g.W.Sink.holds c.list_areas_of.new.out)
+    (output_of g.W.Write.contents g.W.Sink.failures g.W.Sink.holds c.args.out.now) (output_of g.W.Write.contents g.W.Sink.failures g.W.Sink.holds c.list_areas_streamed.new.out)
     (λ lines status is. record { base = base; given = c.in_ok-messages.ensures.ok; listed = is })
-    c.list_areas_of.result (c.list_areas_of.ensures tt base (refl, refl))
+    c.list_areas_streamed.result (c.list_areas_streamed.ensures tt base (refl, refl))

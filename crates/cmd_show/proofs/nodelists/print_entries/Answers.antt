@@ -18,8 +18,8 @@ returns-in_err-print_entry-clause-begun g c =
     let mid = g.W.Write.contents c.entries.out in
     let new = g.W.Write.contents c.print_entry.new.out in
     at_error c.from_residual.result
-    (entry_begun old mid new c.args.lines.now.items c.entries.lines.items c.args.list.now c.lines-line-items.result.now c.entries.i c.address_of.result c.line-item.result c.lines-line-items.ensures.lines
-    c.entries-test.true c.address_of.ensures c.line-item.is c.entries.invariant.printed c.in_err-print_entry.ensures.begun)
+    (entry_begun old mid new c.args.lines.now.items c.entries.lines.items c.args.list.now c.lines-line-items.result.now c.entries.i c.line_address.result c.line-item.result c.lines-line-items.ensures.lines
+    c.entries-test.true c.line_address.ensures c.line-item.is c.entries.invariant.printed c.in_err-print_entry.ensures.begun)
 
 pub returns-in_err-push_list_total-clause-begun : goal.returns-in_err-push_list_total-clause-begun
 returns-in_err-push_list_total-clause-begun g c =

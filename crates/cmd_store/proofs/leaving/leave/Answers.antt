@@ -14,7 +14,7 @@ returns-in_err-print_rest-clause-either g c = looks_may _ _ c.requires (no_look 
 
 pub returns-clause-printed : goal.returns-clause-printed
 returns-clause-printed g c =
-    printed_then c.args.lines.now.items _ _ c.commit_on.result c.in_ok-print_rest.ensures.bytes (c.in_ok-print_rest.ensures.ok, c.in_ok-print_rest.ensures.passed) c.commit_on.ensures.of_store
+    printed_then c.args.lines.now.items _ _ c.commit_store.result c.in_ok-print_rest.ensures.bytes (c.in_ok-print_rest.ensures.ok, c.in_ok-print_rest.ensures.passed) c.commit_store.ensures.of_store
 
 pub returns-clause-met : goal.returns-clause-met
-returns-clause-met g c = only_store _ _ c.commit_on.result c.commit_on.ensures.of_store
+returns-clause-met g c = only_store _ _ c.commit_store.result c.commit_store.ensures.of_store

@@ -5,7 +5,7 @@ use Rattle.disk_io.proofs.Moments.{then_nothing}
 use Rattle.disk_atomic.specs.Finishing.{AreAway, AreNamed, FinishesEach, IsOfLeft, IsOver, KeepsFile}
 use Rattle.disk_atomic.proofs.Ended.{away_back, finished_more, FinishesSome, IsSameLeft, keeps_now, none_finished, nothing_left, one_of_left, over_now, some_finishes, still_keeps, still_named, still_over, still_same}
 use Rattle.disk_atomic.proofs.{Changes.only_nothing, Changes.then_only, Changes.weaker_steps, Each.ahead, Each.behind, Each.here, Whole.one_false}
-use Rattle.disk_atomic.proofs.finishing.finish_stopped.Goals.{After-sync_folder_of-2}
+use Rattle.disk_atomic.proofs.finishing.finish_stopped.Goals.{After-sync_parent_folder-2}
 use Rattle.disk_atomic.proofs.finishing.finish_stopped.Given as given
 use Rattle.disk_atomic.proofs.finishing.finish_stopped.Goals as goal
 
@@ -72,20 +72,20 @@ found-preserved g c =
       cause = omega (arith, c.finish_one.ensures.cause.later, inv.cause);
     }
 
-moments : (g : given.Over) (c : After-sync_folder_of-2 g) → Honestly (g.D.Disk.state c.sync_folder_of-2.new.disk)
-    (LeavesOnly (g.D.Disk.state c.args.disk.now) (g.D.Disk.state c.sync_folder_of-2.new.disk) (OneStepOn (FinishesEach c.args.cursor c.args.found.now) (g.D.Disk.state c.args.disk.now)))
+moments : (g : given.Over) (c : After-sync_parent_folder-2 g) → Honestly (g.D.Disk.state c.sync_parent_folder-2.new.disk)
+    (LeavesOnly (g.D.Disk.state c.args.disk.now) (g.D.Disk.state c.sync_parent_folder-2.new.disk) (OneStepOn (FinishesEach c.args.cursor c.args.found.now) (g.D.Disk.state c.args.disk.now)))
 moments g c honest =
     let found = c.args.found.now in
     let cursor = c.args.cursor in
     let i = c.found.left-index in
     let d0 = g.D.Disk.state c.args.disk.now in
     let d = g.D.Disk.state c.found.disk in
-    let quiet = c.sync_folder_of-2.ensures.quiet in
-    then_nothing d0 d (g.D.Disk.state c.sync_folder_of-2.new.disk) (OneStepOn (FinishesEach cursor found) d0)
+    let quiet = c.sync_parent_folder-2.ensures.quiet in
+    then_nothing d0 d (g.D.Disk.state c.sync_parent_folder-2.new.disk) (OneStepOn (FinishesEach cursor found) d0)
     (weaker_steps d0 d (FinishesSome cursor found i) (FinishesEach cursor found) (c.found.invariant.any_moment (quiet.honest honest)) (some_finishes cursor found i)) quiet
 
-pub returns-in_err-sync_folder_of-2-clause-any_moment : goal.returns-in_err-sync_folder_of-2-clause-any_moment
-returns-in_err-sync_folder_of-2-clause-any_moment g c = moments g (goal.at.returns-in_err-sync_folder_of-2-clause-any_moment g c).After-sync_folder_of-2
+pub returns-in_err-sync_parent_folder-2-clause-any_moment : goal.returns-in_err-sync_parent_folder-2-clause-any_moment
+returns-in_err-sync_parent_folder-2-clause-any_moment g c = moments g (goal.at.returns-in_err-sync_parent_folder-2-clause-any_moment g c).After-sync_parent_folder-2
 
 pub returns-clause-any_moment : goal.returns-clause-any_moment
-returns-clause-any_moment g c = moments g (goal.at.returns-clause-any_moment g c).After-sync_folder_of-2
+returns-clause-any_moment g c = moments g (goal.at.returns-clause-any_moment g c).After-sync_parent_folder-2

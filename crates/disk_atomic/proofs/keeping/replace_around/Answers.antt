@@ -55,16 +55,16 @@ pub returns-clause-any_moment : goal.returns-clause-any_moment
 returns-clause-any_moment g c honest =
     let d0 = g.D.Disk.state c.args.disk.now in
     let path = c.args.path.now in
-    then_nothing d0 (g.D.Disk.state c.rename.new.self) (g.D.Disk.state c.sync_folder_of.new.disk)
+    then_nothing d0 (g.D.Disk.state c.rename.new.self) (g.D.Disk.state c.sync_parent_folder.new.disk)
     (OneStepOn (Replaces path c.args.staging.now (kept_bytes (bytes_in (d0.seen path)) c.args.kept)) d0)
-    (moments g (goal.at.returns-clause-any_moment g c).After-rename (c.sync_folder_of.ensures.quiet.honest honest)) c.sync_folder_of.ensures.quiet
+    (moments g (goal.at.returns-clause-any_moment g c).After-rename (c.sync_parent_folder.ensures.quiet.honest honest)) c.sync_parent_folder.ensures.quiet
 
 pub returns-clause-changes : goal.returns-clause-changes
 returns-clause-changes g c =
     let both = λ (m : List ℕ). (m ≡ c.args.staging.now) ⊎ (m ≡ c.args.path.now) in
     let d2 = g.D.Disk.state c.rename.new.self in
-    let d3 = g.D.Disk.state c.sync_folder_of.new.disk in
-    then_only both (g.D.Disk.state c.args.disk.now) d2 d3 (renamed g (goal.at.returns-clause-changes g c).After-rename) (only_nothing both d2 d3 c.sync_folder_of.ensures.quiet)
+    let d3 = g.D.Disk.state c.sync_parent_folder.new.disk in
+    then_only both (g.D.Disk.state c.args.disk.now) d2 d3 (renamed g (goal.at.returns-clause-changes g c).After-rename) (only_nothing both d2 d3 c.sync_parent_folder.ensures.quiet)
 
 pub returns-clause-replaced : goal.returns-clause-replaced
 returns-clause-replaced g c honest = grind (arith, on_disk_as, on_ok_weaker)

@@ -50,18 +50,18 @@ returns-in_err-rename-clause-changes g c = renamed g (goal.at.returns-in_err-ren
 pub returns-clause-any_moment : goal.returns-clause-any_moment
 returns-clause-any_moment g c =
     let d0 = g.D.Disk.state c.args.disk.now in
-    then_nothing d0 (g.D.Disk.state c.rename.new.self) (g.D.Disk.state c.sync_folder_of.new.disk) (OneStepOn (Replaces c.args.path.now c.args.staging.now c.args.bytes.now) d0) (moments g (goal.at.returns-clause-any_moment g c).After-rename) c.sync_folder_of.ensures.quiet
+    then_nothing d0 (g.D.Disk.state c.rename.new.self) (g.D.Disk.state c.sync_parent_folder.new.disk) (OneStepOn (Replaces c.args.path.now c.args.staging.now c.args.bytes.now) d0) (moments g (goal.at.returns-clause-any_moment g c).After-rename) c.sync_parent_folder.ensures.quiet
 
 pub returns-clause-changes : goal.returns-clause-changes
 returns-clause-changes g c =
     let both = λ (m : List ℕ). (m ≡ c.args.staging.now) ⊎ (m ≡ c.args.path.now) in
     let d2 = g.D.Disk.state c.rename.new.self in
-    let d3 = g.D.Disk.state c.sync_folder_of.new.disk in
-    then_only both (g.D.Disk.state c.args.disk.now) d2 d3 (renamed g (goal.at.returns-clause-changes g c).After-rename) (only_nothing both d2 d3 c.sync_folder_of.ensures.quiet)
+    let d3 = g.D.Disk.state c.sync_parent_folder.new.disk in
+    then_only both (g.D.Disk.state c.args.disk.now) d2 d3 (renamed g (goal.at.returns-clause-changes g c).After-rename) (only_nothing both d2 d3 c.sync_parent_folder.ensures.quiet)
 
 pub returns-clause-replaced : goal.returns-clause-replaced
 returns-clause-replaced g c = grind (arith, on_ok_weaker)
 
 pub returns-clause-moved : goal.returns-clause-moved
 returns-clause-moved g c =
-    on_ok_weaker c.sync_folder_of.result (λ named. c.sync_folder_of.ensures.quiet.seen c.args.staging.now ∙ c.in_ok-rename.ensures.gone) c.sync_folder_of.ensures.durable
+    on_ok_weaker c.sync_parent_folder.result (λ named. c.sync_parent_folder.ensures.quiet.seen c.args.staging.now ∙ c.in_ok-rename.ensures.gone) c.sync_parent_folder.ensures.durable

@@ -23,5 +23,5 @@ pub returns-clause-changes : goal.returns-clause-changes
 returns-clause-changes g c =
     let at = λ (m : List ℕ). m ≡ c.args.path.now in
     let d2 = g.D.Disk.state c.remove.new.self in
-    let d3 = g.D.Disk.state c.sync_folder_of.new.disk in
-    then_only at (g.D.Disk.state c.args.disk.now) d2 d3 (removed g (goal.at.returns-clause-changes g c).After-remove) (only_nothing at d2 d3 c.sync_folder_of.ensures.quiet)
+    let d3 = g.D.Disk.state c.sync_parent_folder.new.disk in
+    then_only at (g.D.Disk.state c.args.disk.now) d2 d3 (removed g (goal.at.returns-clause-changes g c).After-remove) (only_nothing at d2 d3 c.sync_parent_folder.ensures.quiet)

@@ -6,8 +6,8 @@ pub returns-clause-bytes : goal.returns-clause-bytes
 returns-clause-bytes g c =
     let filled = c.in_ok-came.ensures in
     let made = c.make_room.new.whole in
-    let buf = c.fill_from.new.buf in
-    let same : length buf ≡ made.len = omega (arith, c.fill_from.auto.buf, c.as_mut_slice.ensures.len) in
+    let buf = c.fill_buffer.new.buf in
+    let same : length buf ≡ made.len = omega (arith, c.fill_buffer.auto.buf, c.as_mut_slice.ensures.len) in
     piece_read _ _ c.args.whole.now.items made.items buf c.truncate.new.self.items c.len-start.result c.in_ok-came.came
     (omega (arith, c.len-start.ensures, c.args.whole.now.ok.0)) c.in_ok-make_room.ensures.ok
     (rw c.as_mut_slice.ensures.value at filled.front) (omega (arith, same, made.ok.0)) filled.within filled.bytes

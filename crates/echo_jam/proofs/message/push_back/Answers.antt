@@ -7,7 +7,7 @@ use Rattle.echo_jam.proofs.message.push_back.Goals as goal
 pub returns : goal.returns
 returns c =
     let m = c.args.message.now in
-    let written = c.seconds_of.ensures ∙ ap (λ (f : Filed). seconds_of f.date) c.message.view_is in
+    let written = c.date_seconds.ensures ∙ ap (λ (f : Filed). seconds_of f.date) c.message.view_is in
     let kind = c.jam_attribute.ensures ∙ ap (λ (f : Filed). jam_attribute c.args.scanned f.sender) c.message.view_is in
     on_ok_weaker c.push_place.result
     (λ last.

@@ -4,4 +4,4 @@ use Rattle.echo_mail.proofs.body.body_charset.Goals as goal
 
 pub returns : goal.returns
 returns c =
-    c.charset_of.ensures ∙ ap charset_of (c.value_in.ensures ∙ ap (λ fs. value_in fs (codes "Content-Type")) c.as_slice.ensures)
+    c.charset_of.ensures ∙ ap charset_of (c.field_value.ensures ∙ ap (λ fs. value_in fs (codes "Content-Type")) c.as_slice.ensures)

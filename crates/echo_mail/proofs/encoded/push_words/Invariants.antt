@@ -1,6 +1,6 @@
 use Rattle.std.proofs.Common.{◌≡◌, ◌++◌, length}
 use Rattle.echo_text.specs.Lines.{lines}
-use Rattle.echo_mail.specs.{declared.encoded.Before.TheVariants.Nothing, Encoded.words_text}
+use Rattle.echo_mail.specs.{declared.encoded.PrecedingText.TheVariants.Nothing, Encoded.words_text}
 use Rattle.echo_mail.proofs.encoded.push_words.Given as goal
 
 abbrev pub invariant-words : goal.invariant-words

@@ -6,7 +6,7 @@ use Rattle.echo_net.proofs.Owned.{is_row, one_row_more}
 use Rattle.echo_net.proofs.rows.rows.Goals as goal
 
 pub row-requires-clause-known : goal.row-requires-clause-known
-row-requires-clause-known c = λ l h. c.requires.known l ((c.links_from-run.ensures l).0 h).0
+row-requires-clause-known c = λ l h. c.requires.known l ((c.outgoing_links-run.ensures l).0 h).0
 
 pub carriers-preserved : goal.carriers-preserved
 carriers-preserved c =
@@ -15,7 +15,7 @@ carriers-preserved c =
     let i = c.carriers.system-index in
     let row : List ℕ = c.in_ok-row.row.items in
     let is : c.push.new.self.items ≡ c.carriers.rows.items ++ row ∷ [] = grind arith in
-    let here = is_row carriers links c.links_from-run.result.now (system_at carriers i) row c.links_from-run.ensures c.in_ok-row.ensures.ascending c.in_ok-row.ensures.members in
+    let here = is_row carriers links c.outgoing_links-run.result.now (system_at carriers i) row c.outgoing_links-run.ensures c.in_ok-row.ensures.ascending c.in_ok-row.ensures.members in
     let more = one_row_more carriers links i c.carriers.rows.items row c.carriers.invariant.size c.carriers.invariant.each here in
     record {
       size = ap length is ∙ more.0;

@@ -1,6 +1,6 @@
 use Rattle.std.proofs.Common.{◌∙◌, ◌<◌, ◌+◌, [], ◌∷◌, List, ap, arith, drop, length, sym}
 use Rattle.std.proofs.lemmas.List.{drop_more}
-use Rattle.echo_toss.specs.{Counts.counted_with, Exports.Outgoing}
+use Rattle.echo_toss.specs.{Counts.counted_with, Exports.OutgoingMessage}
 use Rattle.echo_toss.proofs.Counts.{more_twice}
 use Rattle.echo_toss.proofs.counting.count_copies.Goals as goal
 
@@ -12,5 +12,5 @@ sent-preserved c =
     let rest = drop (i + 1) sent in
     let within : i < length sent = omega arith in
     ap (counted_with rest) c.in_ok-more.ensures ∙ more_twice c.sent.more (one ∷ []) rest
-    ∙ ap (λ (l : List Outgoing). counted_with l c.sent.more) (ap (λ (o : Outgoing). o ∷ rest) c.one-item.is ∙ sym (drop_more sent i one within))
+    ∙ ap (λ (l : List OutgoingMessage). counted_with l c.sent.more) (ap (λ (o : OutgoingMessage). o ∷ rest) c.one-item.is ∙ sym (drop_more sent i one within))
     ∙ c.sent.invariant

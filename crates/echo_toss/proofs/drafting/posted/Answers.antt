@@ -5,12 +5,12 @@ use Rattle.model_steps.proofs.Kept.{posted_filed}
 use Rattle.echo_toss.proofs.{Drafted.posted_is, Judged.draft_allowed}
 use Rattle.echo_toss.proofs.drafting.posted.Goals as goal
 
-pub date_of-requires : goal.date_of-requires
-date_of-requires c = (draft_allowed c.args.links.now [] c.args.tag.now c.args.draft.now c.args.serial c.args.stamp c.requires refl).moment
+pub date_time-requires : goal.date_time-requires
+date_time-requires c = (draft_allowed c.args.links.now [] c.args.tag.now c.args.draft.now c.args.serial c.args.stamp c.requires refl).moment
 
-made : (c : goal.After-date_of) → record {
+made : (c : goal.After-date_time) → record {
   sender = None;
-  date = c.date_of.result;
+  date = c.date_time.result;
   to_name = c.in_ok-to_name.to_name;
   from_name = c.in_ok-from_name.from_name;
   subject = c.in_ok-subject.subject;
@@ -18,7 +18,7 @@ made : (c : goal.After-date_of) → record {
 } ≡ posted c.args.links.now c.args.tag.now c.args.draft.now c.args.serial c.args.stamp
 made c = grind (arith, posted_is)
 
-filed : (c : goal.After-date_of) → IsFiled (posted c.args.links.now c.args.tag.now c.args.draft.now c.args.serial c.args.stamp)
+filed : (c : goal.After-date_time) → IsFiled (posted c.args.links.now c.args.tag.now c.args.draft.now c.args.serial c.args.stamp)
 filed c =
     posted_filed c.args.links.now [] c.args.tag.now c.args.draft.now c.args.serial c.args.stamp c.system.ensures.file
     (draft_allowed c.args.links.now [] c.args.tag.now c.args.draft.now c.args.serial c.args.stamp c.requires refl)

@@ -23,14 +23,14 @@ returns-then-not-branch-clause-changes g c =
     wider (IsOfLeft c.deref.result.now) (IsOfPaths c.args.paths.now) (g.D.Disk.state c.args.disk.now) (g.D.Disk.state c.finish_stopped.new.disk) (of_paths c.args.paths.now c.deref.result.now lent)
     c.finish_stopped.ensures.changes
 
-pub returns-in_err-sync_folder_of-clause-changes : goal.returns-in_err-sync_folder_of-clause-changes
-returns-in_err-sync_folder_of-clause-changes g c =
+pub returns-in_err-sync_parent_folder-clause-changes : goal.returns-in_err-sync_parent_folder-clause-changes
+returns-in_err-sync_parent_folder-clause-changes g c =
     let lent = subst (AreSameLeft c.args.paths.now) (sym c.deref.ensures.value) c.in_ok-found.ensures in
     let at = IsOfPaths c.args.paths.now in
     let d0 = g.D.Disk.state c.args.disk.now in
     let d1 = g.D.Disk.state c.finish_stopped.new.disk in
-    let d2 = g.D.Disk.state c.sync_folder_of.new.disk in
-    then_only at d0 d1 d2 (wider (IsOfLeft c.deref.result.now) at d0 d1 (of_paths c.args.paths.now c.deref.result.now lent) c.finish_stopped.ensures.changes) (only_nothing at d1 d2 c.sync_folder_of.ensures.quiet)
+    let d2 = g.D.Disk.state c.sync_parent_folder.new.disk in
+    then_only at d0 d1 d2 (wider (IsOfLeft c.deref.result.now) at d0 d1 (of_paths c.args.paths.now c.deref.result.now lent) c.finish_stopped.ensures.changes) (only_nothing at d1 d2 c.sync_parent_folder.ensures.quiet)
 
 pub returns-clause-changes : goal.returns-clause-changes
 returns-clause-changes g c =
@@ -38,19 +38,19 @@ returns-clause-changes g c =
     let at = IsOfPaths c.args.paths.now in
     let d0 = g.D.Disk.state c.args.disk.now in
     let d1 = g.D.Disk.state c.finish_stopped.new.disk in
-    let d2 = g.D.Disk.state c.sync_folder_of.new.disk in
-    then_only at d0 d1 d2 (wider (IsOfLeft c.deref.result.now) at d0 d1 (of_paths c.args.paths.now c.deref.result.now lent) c.finish_stopped.ensures.changes) (only_nothing at d1 d2 c.sync_folder_of.ensures.quiet)
+    let d2 = g.D.Disk.state c.sync_parent_folder.new.disk in
+    then_only at d0 d1 d2 (wider (IsOfLeft c.deref.result.now) at d0 d1 (of_paths c.args.paths.now c.deref.result.now lent) c.finish_stopped.ensures.changes) (only_nothing at d1 d2 c.sync_parent_folder.ensures.quiet)
 
-pub returns-in_err-sync_folder_of-clause-ends : goal.returns-in_err-sync_folder_of-clause-ends
-returns-in_err-sync_folder_of-clause-ends g c = λ honest.
+pub returns-in_err-sync_parent_folder-clause-ends : goal.returns-in_err-sync_parent_folder-clause-ends
+returns-in_err-sync_parent_folder-clause-ends g c = λ honest.
     let lent = subst (AreSameLeft c.args.paths.now) (sym c.deref.ensures.value) c.in_ok-found.ensures in
     let found = c.deref.result.now in
     let d0 = g.D.Disk.state c.args.disk.now in
     let d1 = g.D.Disk.state c.finish_stopped.new.disk in
-    let d2 = g.D.Disk.state c.sync_folder_of.new.disk in
-    let h1 = c.sync_folder_of.ensures.quiet.honest honest in
-    let p = err_from_is_err_and c.from_residual-in_err-sync_folder_of.result c.from_residual-in_err-sync_folder_of.ensures.1 in
-    rw p.1 (unsettled_these c.args.cursor c.args.folder.now found (c.requires.placed found lent) d0 d1 d2 c.sync_folder_of.ensures.quiet c.args.paths.now p.0 lent (c.finish_stopped.ensures.any_moment h1) c.finish_stopped.ensures.changes)
+    let d2 = g.D.Disk.state c.sync_parent_folder.new.disk in
+    let h1 = c.sync_parent_folder.ensures.quiet.honest honest in
+    let p = err_from_is_err_and c.from_residual-in_err-sync_parent_folder.result c.from_residual-in_err-sync_parent_folder.ensures.1 in
+    rw p.1 (unsettled_these c.args.cursor c.args.folder.now found (c.requires.placed found lent) d0 d1 d2 c.sync_parent_folder.ensures.quiet c.args.paths.now p.0 lent (c.finish_stopped.ensures.any_moment h1) c.finish_stopped.ensures.changes)
 
 pub returns-clause-ends : goal.returns-clause-ends
 returns-clause-ends g c = λ honest.
@@ -58,9 +58,9 @@ returns-clause-ends g c = λ honest.
     let found = c.deref.result.now in
     let d0 = g.D.Disk.state c.args.disk.now in
     let d1 = g.D.Disk.state c.finish_stopped.new.disk in
-    let d2 = g.D.Disk.state c.sync_folder_of.new.disk in
-    let h1 = c.sync_folder_of.ensures.quiet.honest honest in
-    settled_these c.args.cursor c.args.folder.now found (c.requires.placed found lent) d0 d1 d2 c.sync_folder_of.ensures.quiet c.args.paths.now lent c.in_ok-sync_folder_of.ensures.gone
+    let d2 = g.D.Disk.state c.sync_parent_folder.new.disk in
+    let h1 = c.sync_parent_folder.ensures.quiet.honest honest in
+    settled_these c.args.cursor c.args.folder.now found (c.requires.placed found lent) d0 d1 d2 c.sync_parent_folder.ensures.quiet c.args.paths.now lent c.in_ok-sync_parent_folder.ensures.gone
     (c.in_ok-finish_stopped.ensures.over h1 c.if-not-branch.false) c.in_ok-finish_stopped.ensures.named (c.finish_stopped.ensures.any_moment h1) c.finish_stopped.ensures.changes
 
 pub returns-then-not-branch-clause-taken : goal.returns-then-not-branch-clause-taken

@@ -4,7 +4,7 @@ use Rattle.disk_io.specs.{Device.Failed, declared.disk_error.DiskError.DiskError
 use Rattle.base_store.specs.Store.{all_scanned}
 use Rattle.cmd_status.specs.Devices.{output_of}
 use Rattle.cmd_store.specs.{PacketLines.counted_line, Answered.AnswersOn, Answered.AreLines, Answered.RefusesNone, Stops.store_answer, declared.command_error.CommandError.CommandError}
-use Rattle.echo_toss.specs.Exports.{Outgoing as Sent}
+use Rattle.echo_toss.specs.Exports.{OutgoingMessage as Sent}
 use Rattle.station_scan.specs.Passing.{AreCounted, IsAllOf, IsPartOf, IsStagingTo, counts_in}
 use Rattle.station_scan.specs.declared.scan_error.ScanError.TheVariants.{Command, Staying}
 use Rattle.station_scan.proofs.Passes.{can_still, gone_or_same, passed_part, staged_keeps, staged_more}

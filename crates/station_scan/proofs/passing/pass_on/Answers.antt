@@ -16,10 +16,10 @@ groups-preserved g c =
     let to = c.args.sending in
     let s0 = g.P.Kept.Store.state c.args.store.now.store in
     let s = g.P.Kept.Store.state c.groups.store.store in
-    let r = g.P.Kept.Store.state c.group_from.new.store.store in
+    let r = g.P.Kept.Store.state c.gather_group.new.store.store in
     let e = g.P.Kept.Store.state c.add_group.new.store in
     let inv = c.groups.invariant in
-    let read = c.group_from.ensures in
+    let read = c.gather_group.ensures in
     let add = c.add_group.ensures in
     let group = c.in_ok-group.group in
     let now = c.add_group.new.packets.items in
@@ -49,10 +49,10 @@ returns-in_err-add_group-clause-staged g c =
     let to = c.args.sending in
     let s0 = g.P.Kept.Store.state c.args.store.now.store in
     let s = g.P.Kept.Store.state c.groups.store.store in
-    let r = g.P.Kept.Store.state c.group_from.new.store.store in
+    let r = g.P.Kept.Store.state c.gather_group.new.store.store in
     let e = g.P.Kept.Store.state c.add_group.new.store in
     let inv = c.groups.invariant in
-    let read = c.group_from.ensures in
+    let read = c.gather_group.ensures in
     let add = c.add_group.ensures in
     let group = c.in_ok-group.group in
     let now = c.add_group.new.packets.items in
@@ -67,10 +67,10 @@ returns-in_err-add_group-clause-taken g c = λ honest is base kept.
     let to = c.args.sending in
     let s0 = g.P.Kept.Store.state c.args.store.now.store in
     let s = g.P.Kept.Store.state c.groups.store.store in
-    let r = g.P.Kept.Store.state c.group_from.new.store.store in
+    let r = g.P.Kept.Store.state c.gather_group.new.store.store in
     let e = g.P.Kept.Store.state c.add_group.new.store in
     let inv = c.groups.invariant in
-    let read = c.group_from.ensures in
+    let read = c.gather_group.ensures in
     let add = c.add_group.ensures in
     let group = c.in_ok-group.group in
     let now = c.add_group.new.packets.items in
@@ -85,9 +85,9 @@ add_group-requires g c κs =
     let Own = g.P.Paths.OwnPaths.is_own c.args.paths.now in
     let s0 = g.P.Kept.Store.state c.args.store.now.store in
     let s = g.P.Kept.Store.state c.groups.store.store in
-    let r = g.P.Kept.Store.state c.group_from.new.store.store in
+    let r = g.P.Kept.Store.state c.gather_group.new.store.store in
     let passing = c.groups.invariant.passing in
-    let looks = c.group_from.ensures.looks in (
+    let looks = c.gather_group.ensures.looks in (
       (refl, tt),
       (read_can Own c.args.sending s0 c.requires.ready s c.groups.packets.items c.groups.at passing r looks, (passing.sent, read_making Own c.args.sending s0 c.requires.ready s c.groups.packets.items c.groups.at passing r looks)),
     )
@@ -95,5 +95,5 @@ add_group-requires g c κs =
 pub len-end-requires-in-groups : goal.len-end-requires-in-groups
 len-end-requires-in-groups g c =
     let stages = c.add_group.ensures.stages c.groups.invariant.passing.sent
-    (read_making (g.P.Paths.OwnPaths.is_own c.args.paths.now) c.args.sending (g.P.Kept.Store.state c.args.store.now.store) c.requires.ready (g.P.Kept.Store.state c.groups.store.store) c.groups.packets.items c.groups.at c.groups.invariant.passing (g.P.Kept.Store.state c.group_from.new.store.store) c.group_from.ensures.looks) in
+    (read_making (g.P.Paths.OwnPaths.is_own c.args.paths.now) c.args.sending (g.P.Kept.Store.state c.args.store.now.store) c.requires.ready (g.P.Kept.Store.state c.groups.store.store) c.groups.packets.items c.groups.at c.groups.invariant.passing (g.P.Kept.Store.state c.gather_group.new.store.store) c.gather_group.ensures.looks) in
     stages.used.holds.ready

@@ -4,7 +4,7 @@ use Rattle.disk_atomic.specs.declared.placing_error.PlacingError.{PlacingError, 
 use Rattle.base_store.specs.Store.{all_scanned}
 use Rattle.cmd_status.specs.Devices.{output_of}
 use Rattle.station.proofs.Failures.{failed_wider}
-use Rattle.station_scan.specs.{Left.EndsLeft, Scanning.ScansOnStore, declared.pieces.Source.Source, declared.scan_error.ScanError.ScanError, declared.sending.Sending.Sending}
+use Rattle.station_scan.specs.{Left.EndsLeft, Scanning.ScansOnStore, declared.pieces.ScanSource.ScanSource, declared.scan_error.ScanError.ScanError, declared.sending.Sending.Sending}
 use Rattle.station_scan.proofs.Puts.{moved_still, scans_early, scans_left, scans_put, tries_put}
 use Rattle.station_scan.proofs.{Outs.out_keeps, Reports.placing_err_of, Reports.unplanned_other, Reports.unplanned_why, Written.used_settled}
 use Rattle.station_scan.proofs.putting.put_moved.Goals as goal
@@ -12,7 +12,7 @@ use Rattle.station_scan.proofs.putting.put_moved.Goals as goal
 pub returns-in-Err-clause-scans : goal.returns-in-Err-clause-scans
 returns-in-Err-clause-scans g c = λ honest base moved.
     let Own = g.P.Paths.OwnPaths.is_own c.args.paths.now in
-    let source : Source = record { links = c.args.links; stamp = c.args.scan.now.stamp; from = c.args.from } in
+    let source : ScanSource = record { links = c.args.links; stamp = c.args.scan.now.stamp; from = c.args.from } in
     let outbound = c.args.scan.now.outbound.now in
     let s0 = g.P.Kept.Store.state c.args.store.now.store in
     let f0 = g.P.Kept.Store.failures c.args.store.now.store in
@@ -33,7 +33,7 @@ returns-in-Err-clause-scans g c = λ honest base moved.
 pub returns-in-Ok-finish_earlier-clause-scans : goal.returns-in-Ok-finish_earlier-clause-scans
 returns-in-Ok-finish_earlier-clause-scans g c = λ honest base moved.
     let Own = g.P.Paths.OwnPaths.is_own c.args.paths.now in
-    let source : Source = record { links = c.args.links; stamp = c.args.scan.now.stamp; from = c.args.from } in
+    let source : ScanSource = record { links = c.args.links; stamp = c.args.scan.now.stamp; from = c.args.from } in
     let outbound = c.args.scan.now.outbound.now in
     let s0 = g.P.Kept.Store.state c.args.store.now.store in
     let f0 = g.P.Kept.Store.failures c.args.store.now.store in
@@ -64,7 +64,7 @@ send_on-requires g c κs = grind (arith, used_settled)
 pub returns-in-Ok-finish_earlier-clause-tried : goal.returns-in-Ok-finish_earlier-clause-tried
 returns-in-Ok-finish_earlier-clause-tried g c = λ honest base moved.
     let Own = g.P.Paths.OwnPaths.is_own c.args.paths.now in
-    let source : Source = record { links = c.args.links; stamp = c.args.scan.now.stamp; from = c.args.from } in
+    let source : ScanSource = record { links = c.args.links; stamp = c.args.scan.now.stamp; from = c.args.from } in
     let outbound = c.args.scan.now.outbound.now in
     let s0 = g.P.Kept.Store.state c.args.store.now.store in
     let f0 = g.P.Kept.Store.failures c.args.store.now.store in
@@ -97,7 +97,7 @@ returns-in-Ok-finish_earlier-clause-keeps g c =
 pub returns-clause-scans : goal.returns-clause-scans
 returns-clause-scans g c = λ honest base moved.
     let Own = g.P.Paths.OwnPaths.is_own c.args.paths.now in
-    let source : Source = record { links = c.args.links; stamp = c.args.scan.now.stamp; from = c.args.from } in
+    let source : ScanSource = record { links = c.args.links; stamp = c.args.scan.now.stamp; from = c.args.from } in
     let outbound = c.args.scan.now.outbound.now in
     let s0 = g.P.Kept.Store.state c.args.store.now.store in
     let f0 = g.P.Kept.Store.failures c.args.store.now.store in

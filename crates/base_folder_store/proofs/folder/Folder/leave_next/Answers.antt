@@ -6,7 +6,7 @@ use Rattle.base_log.proofs.Quiet.{base_quiet}
 use Rattle.base_file.specs.{Alone.IsStoredAlone, Base.Base}
 use Rattle.base_store.specs.Keys.{HasBytesOf, AreWhereRecorded, digest_at}
 use Rattle.base_folder_store.specs.{Answers.IsStoredOf, Calls.StagesOnly, Held.HoldsBase, Left.HoldsLeft, Left.IsLeftOf, Left.IsPurgedTo, Left.left_if}
-use Rattle.base_folder_store.specs.{Opened.committed_by, Opened.held_by, Opened.path_of, declared.folder.Folder.Folder, declared.leaving.Left.Left, declared.reading.StoredMessage.StoredMessage}
+use Rattle.base_folder_store.specs.{Opened.committed_by, Opened.held_by, Opened.path_of, declared.folder.Folder.Folder, declared.leaving.PurgedBytes.PurgedBytes, declared.reading.StoredBytes.StoredBytes}
 use Rattle.base_folder_store.proofs.Beside.{committed_others, many_readable, readable_others, readable_held, readable_quiet, recorded_readable}
 use Rattle.base_folder_store.proofs.{Bases.open_quiet, Bases.recorded_where, Causes.handed_on, Causes.purge_cause, Fits.room_left, Fits.shorter_more}
 use Rattle.base_folder_store.proofs.{Legible.held_quiet, Legible.keys_all, Legible.legible_open, Legible.messages_all, Looked.some_message, Runs.run_quiet, Runs.run_twice, Stated.not_damaged}
@@ -104,7 +104,7 @@ returns-in_err-stored-clause-cause g c =
     purge_cause (g.D.Disk.state c.stored.new.disk) (committed_by (g.D.Disk.state c.args.disk.now) c.args.next.now) _ _ _ c.from_residual.result c.from_residual.ensures.1 c.in_err-stored.ensures.cause
     (λ honest is keyed base holds.
     let m = message (g.D.Disk.state c.args.disk.now) c.args.self.now c.args.next.now c.args.place c.requires.purged c.requires.within (c.stored.ensures.quiet.honest honest) keyed base holds in
-    not_damaged (λ (stored : StoredMessage). IsStoredOf base.messages c.args.place stored.bytes.items) _ (c.in_err-stored.ensures.stored honest base.messages m.recorded m.within) is)
+    not_damaged (λ (stored : StoredBytes). IsStoredOf base.messages c.args.place stored.bytes.items) _ (c.in_err-stored.ensures.stored honest base.messages m.recorded m.within) is)
 
 pub returns-in_err-left-clause-cause : goal.returns-in_err-left-clause-cause
 returns-in_err-left-clause-cause g c = record {
@@ -113,7 +113,7 @@ returns-in_err-left-clause-cause g c = record {
   damaged = λ honest is keyed base holds.
       let m = message (g.D.Disk.state c.args.disk.now) c.args.self.now c.args.next.now c.args.place c.requires.purged c.requires.within (c.stored.ensures.quiet.honest honest) keyed base holds in
       let of = c.in_ok-stored.ensures.stored honest base.messages m.recorded m.within in
-      not_damaged (λ (left : Left). IsLeftOf (nat_lt c.args.place c.args.self.now.end.recorded.cursor) of.s left) _ (c.in_err-left.ensures.left of.s of.size of.alone of.same)
+      not_damaged (λ (left : PurgedBytes). IsLeftOf (nat_lt c.args.place c.args.self.now.end.recorded.cursor) of.s left) _ (c.in_err-left.ensures.left of.s of.size of.alone of.same)
       (handed_on _ _ c.from_residual-in_err-left.result c.from_residual-in_err-left.ensures.1 is);
 }
 

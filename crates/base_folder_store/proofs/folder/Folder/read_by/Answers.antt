@@ -21,5 +21,5 @@ returns-in-Some-part-clause-read g c honest = λ s size alone has.
     (c.deref-2.ensures.value ∙ legible.names.messages) (c.read.ensures.part honest) (c.requires.part h0) in
     let long = messages_all d f legible in
     let all : length held ≡ c.in-Some.all = omega (arith, long, c.in-Some.ensures, c.len.ensures) in
-    let same : c.in-Some-part.bytes.now ≡ stored_bytes Second s = c.in-Some-part.ensures.part held part ∙ c.in-Some-bounds_of.ensures.bytes held s all has in
+    let same : c.in-Some-part.bytes.now ≡ stored_bytes Second s = c.in-Some-part.ensures.part held part ∙ c.in-Some-message_bounds.ensures.bytes held s all has in
     c.read_alone-in-Some-part.ensures.read (message_in Second s) (record { s = s; size = size; alone = alone; is = refl; same = same })

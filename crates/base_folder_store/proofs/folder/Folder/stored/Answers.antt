@@ -3,7 +3,7 @@ use Rattle.std.specs.{Prelude.Vec, declared.alloc.Global.Global}
 use Rattle.base_store.specs.Keys.{HasBytesOf, IsPieceOf}
 use Rattle.echo_filed.specs.{Stored.Stored, Stored.stored_bytes, declared.stored.Version.TheVariants.Second}
 use Rattle.base_log.specs.Standing.{BaseBytes}
-use Rattle.base_folder_store.specs.{Answers.IsStoredOf, Opened.held_by, Vouched.AreBytesAt, declared.reading.StoredMessage.StoredMessage}
+use Rattle.base_folder_store.specs.{Answers.IsStoredOf, Opened.held_by, Vouched.AreBytesAt, declared.reading.StoredBytes.StoredBytes}
 use Rattle.base_folder_store.proofs.{Causes.answers_error, Causes.answers_whole, Legible.held_quiet, Legible.keys_all, Numbered.first_digest, Numbered.piece_bytes, Numbered.piece_has}
 use Rattle.base_folder_store.proofs.folder.Folder.stored.Goals.{After-stored_by}
 use Rattle.base_folder_store.proofs.folder.Folder.stored.Given as given
@@ -19,11 +19,11 @@ entry g c h1 = grind (arith, keys_all)
 
 pub returns-in_err-entry-clause-stored : goal.returns-in_err-entry-clause-stored
 returns-in_err-entry-clause-stored g c honest = λ base recorded inside.
-    answers_whole {T = Vec ℕ Global} (λ (stored : StoredMessage). IsStoredOf base c.args.place stored.bytes.items) _ c.from_residual.result c.from_residual.ensures.1 (c.in_err-entry.ensures.whole honest)
+    answers_whole {T = Vec ℕ Global} (λ (stored : StoredBytes). IsStoredOf base c.args.place stored.bytes.items) _ c.from_residual.result c.from_residual.ensures.1 (c.in_err-entry.ensures.whole honest)
 
 pub returns-in_err-entry-clause-there : goal.returns-in_err-entry-clause-there
 returns-in_err-entry-clause-there g c honest = λ s has.
-    answers_whole {T = Vec ℕ Global} (λ (stored : StoredMessage). stored.bytes.items ≡ stored_bytes Second s) _ c.from_residual.result c.from_residual.ensures.1 (c.in_err-entry.ensures.whole honest)
+    answers_whole {T = Vec ℕ Global} (λ (stored : StoredBytes). stored.bytes.items ≡ stored_bytes Second s) _ c.from_residual.result c.from_residual.ensures.1 (c.in_err-entry.ensures.whole honest)
 
 pub stored_by-requires-clause-within : goal.stored_by-requires-clause-within
 stored_by-requires-clause-within g c = grind arith
@@ -35,7 +35,7 @@ has_entry g c honest s has = grind (arith, entry, held_quiet, piece_has)
 pub returns-in_err-bytes-clause-stored : goal.returns-in_err-bytes-clause-stored
 returns-in_err-bytes-clause-stored g c honest = λ base recorded inside.
     let represented = recorded.each c.args.place inside in
-    answers_error {T = Vec ℕ Global} (λ (b : Vec ℕ Global). b.items ≡ stored_bytes Second represented.s) (λ (stored : StoredMessage). IsStoredOf base c.args.place stored.bytes.items) _ c.from_residual-in_err-bytes.result c.from_residual-in_err-bytes.ensures.1
+    answers_error {T = Vec ℕ Global} (λ (b : Vec ℕ Global). b.items ≡ stored_bytes Second represented.s) (λ (stored : StoredBytes). IsStoredOf base c.args.place stored.bytes.items) _ c.from_residual-in_err-bytes.result c.from_residual-in_err-bytes.ensures.1
     (c.in_err-bytes.ensures.stored honest represented.s (has_entry g (goal.at.returns-in_err-bytes-clause-stored g c).After-stored_by honest represented.s represented.bytes))
 
 pub returns-in_err-bytes-clause-there : goal.returns-in_err-bytes-clause-there

@@ -4,8 +4,8 @@ use Rattle.base_folder_store.proofs.folder.Folder.take_in.Goals as goal
 pub returns-clause-indexed : goal.returns-clause-indexed
 returns-clause-indexed g c honest = grind arith
 
-pub returns-in_err-take_in-clause-indexed : goal.returns-in_err-take_in-clause-indexed
-returns-in_err-take_in-clause-indexed g c honest = grind arith
+pub returns-in_err-add_keys-clause-indexed : goal.returns-in_err-add_keys-clause-indexed
+returns-in_err-add_keys-clause-indexed g c honest = grind arith
 
 pub returns-clause-covered : goal.returns-clause-covered
 returns-clause-covered g c honest = grind arith

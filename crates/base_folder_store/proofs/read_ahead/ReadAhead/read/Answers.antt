@@ -10,8 +10,8 @@ returns-in-Ok-clause-part g c honest = λ more was.
     let room = c.requires.within in
     let order : c.args.begins ≤ to = omega arith in
     let within : to ≤ c.args.first = omega arith in
-    part_read (bytes_in ((g.D.Disk.state c.args.disk.now).seen c.args.path.now)) more (record { from = c.args.begins; bytes = c.read_part_into.new.part }) c.args.first to order within
-    (c.requires.long (c.read_part_into.ensures.quiet.honest honest)) (c.in-Ok.ensures.bytes honest)
+    part_read (bytes_in ((g.D.Disk.state c.args.disk.now).seen c.args.path.now)) more (record { from = c.args.begins; bytes = c.fill_with_part.new.part }) c.args.first to order within
+    (c.requires.long (c.fill_with_part.ensures.quiet.honest honest)) (c.in-Ok.ensures.bytes honest)
 
 pub returns-in-Err-clause-part : goal.returns-in-Err-clause-part
 returns-in-Err-clause-part g c honest = grind (arith, part_lost)

@@ -8,10 +8,10 @@ pub returns-clause-tossed : goal.returns-clause-tossed
 returns-clause-tossed g c =
     let file = c.self.inside.links in
     let base = c.self.inside.store.base in
-    let after = c.toss_packet_in.new.store.base in
+    let after = c.toss_packet.new.store.base in
     let P : SystemState → Type 0 = λ s.
-    PacketStep c.args.limits s (g.R.Read.remaining c.args.reader.now) (g.R.Read.remaining c.toss_packet_in.new.reader) c.match-toss_packet_in.result (state_in file after) in
-    subst P c.self.view_is (elim c.match-toss_packet_in.branch [
+    PacketStep c.args.limits s (g.R.Read.remaining c.args.reader.now) (g.R.Read.remaining c.toss_packet.new.reader) c.match-toss_packet.result (state_in file after) in
+    subst P c.self.view_is (elim c.match-toss_packet.branch [
       | in-Ok w ↦ rw w.result-is (tossed_at c.args.limits file base after _ _ _ _ _ tt (λ b is. is) (w.in-Ok.ensures.tossed tt base refl))
       | in-Err w ↦ rw (w.result-is, w.fault_in.ensures) (tossed_at c.args.limits file base after _ _ _ _ _ tt (λ b is. is) (w.in-Err.ensures.tossed tt base refl))
     ])

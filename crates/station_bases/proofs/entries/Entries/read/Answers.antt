@@ -23,7 +23,7 @@ pub returns-in-Some-part-clause-read : goal.returns-in-Some-part-clause-read
 returns-in-Some-part-clause-read g c honest = λ base recorded inside.
     let e = c.args.self.now in
     let file = bytes_in ((g.D.Disk.state c.args.disk.now).seen c.args.path.now) in
-    let at = c.in-Some-bounds_of.at in
+    let at = c.in-Some-message_bounds.at in
     let h0 = c.read.ensures.quiet.honest honest in
     let reach = c.requires.can.legible h0 in
     let head = c.requires.can.indexed.head in
@@ -34,7 +34,7 @@ returns-in-Some-part-clause-read g c honest = λ base recorded inside.
     let last = c.if-at-written.false in
     let same : c.in-Some-part.bytes.now ≡ stored_bytes Second represented.s = c.in-Some-part.ensures.part file part
     ∙ after_head file e at.begins at.ends reach.long (omega (arith, last, head))
-    ∙ c.in-Some-bounds_of.ensures.bytes (message_bytes file e) represented.s long has in
+    ∙ c.in-Some-message_bounds.ensures.bytes (message_bytes file e) represented.s long has in
     let m = message_in Second represented.s in
     answers_give (λ (x : Filed). x ≡ m) (λ (x : Filed). slice_get base c.args.place ≡ Some x) (λ x is. message_at base c.args.place x inside (λ d. represented.is d ∙ sym is)) c.read_alone-in-Some-part.result
     (c.read_alone-in-Some-part.ensures.read m (record { s = represented.s; size = represented.size; alone = represented.alone; is = refl; same = same }))
@@ -49,12 +49,12 @@ returns-in_err-read-clause-ahead g c honest =
     let e = c.args.self.now in
     part_whole (bytes_in ((g.D.Disk.state c.args.disk.now).seen c.args.path.now)) e.end e.ahead c.read.new.self (c.read.ensures.part honest) (c.requires.can.legible (c.read.ensures.quiet.honest honest)).ahead
 
-pub returns-in_default-bounds_of-clause-read : goal.returns-in_default-bounds_of-clause-read
-returns-in_default-bounds_of-clause-read g c honest = λ base recorded inside.
+pub returns-in_default-message_bounds-clause-read : goal.returns-in_default-message_bounds-clause-read
+returns-in_default-message_bounds-clause-read g c honest = λ base recorded inside.
     let e = c.args.self.now in
     let file = bytes_in ((g.D.Disk.state c.args.disk.now).seen c.args.path.now) in
     let long = message_long file e c.in-Some.all (c.requires.can.legible honest).long c.requires.can.indexed.head (omega (arith, c.in-Some.ensures, c.len.ensures)) in
     let represented = recorded.each c.args.place inside in
     let has = subst (λ (l : List ℕ). HasBytesOf (message_bytes file e) l c.args.place represented.s) (sym c.deref.ensures.value) represented.bytes in
-    let some : false ≡ true = c.in_default-bounds_of.ensures.some (message_bytes file e) represented.s long has in
+    let some : false ≡ true = c.in_default-message_bounds.ensures.some (message_bytes file e) represented.s long has in
     absurd (cc)

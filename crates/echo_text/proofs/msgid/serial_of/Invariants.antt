@@ -1,5 +1,0 @@
-use Rattle.echo_text.proofs.Serials.{Valued}
-use Rattle.echo_text.proofs.msgid.serial_of.Given as goal
-
-abbrev pub invariant-digits : goal.invariant-digits
-invariant-digits l = Valued l.digits l.digit-index l.value

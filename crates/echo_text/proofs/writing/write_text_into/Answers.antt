@@ -1,6 +1,0 @@
-use Rattle.std.proofs.Common.{arith}
-use Rattle.echo_text.proofs.PutTogether.{same_parts}
-use Rattle.echo_text.proofs.writing.write_text_into.Goals as goal
-
-pub returns : goal.returns
-returns c = grind (arith, same_parts)

@@ -1,6 +1,0 @@
-use Rattle.law_stations.specs.Seats.{either}
-use Rattle.law_stations.proofs.ScanSteps.{tosses-go-on}
-use Rattle.law_stations.proofs.sequence_laws.tosses_go_on.Goals as goal
-
-pub returns : goal.returns
-returns g c = tosses-go-on g.D.Disk.state (either g.P.OpenStation.place g.O.OpenStation.place)
