@@ -1,5 +1,5 @@
 -- A base folder as a store, before and after calls.
-use Rattle.std.proofs.Common.{◌≡◌, ◌≤◌, ◌<◌, ◌⊎◌, ℕ, List, length, Option, Result, Ok, Err, refl, sym, ap, subst, arith}
+use Rattle.std.proofs.Common.{◌≡◌, ◌∙◌, ◌≤◌, ◌<◌, ◌⊎◌, ℕ, Bool, false, List, length, Option, Result, Ok, Err, refl, sym, ap, subst, arith}
 use Rattle.std.specs.Prelude.{IfOk, OnOk, IsErrOf}
 use Rattle.disk_io.specs.{Disk.DiskState, Disk.Files, Disk.Honestly, Runs.ChangesNothing}
 use Rattle.disk_io.proofs.Moments.{weaker_run}
@@ -67,12 +67,17 @@ not_damaged P (Err error.Device) was is = absurd (cc)
 not_damaged P (Err error.TooMany) was is = absurd (cc)
 
 pub read_cause : {T : Type 0} (s t : StoreState) (P : Base → T → Type 0) (before now : ℕ) (r : Result T StoreError) → HasReadCause before now r
-    → Honestly t.disk ((base : Base) → s.keeps base → Answers (P base) r) → HasStoreCause s t before now r
-read_cause s t P before now r cause answers = record {
+    → Honestly t.disk ((base : Base) → s.keeps base → Answers (P base) r) → OnOk r (s.is_sound → t.is_sound) → HasStoreCause s t before now r
+read_cause s t P before now r cause answers sound = record {
   later = cause.later;
   failed = cause.failed;
   damaged = λ honest is base keeps. not_damaged (P base) r (answers honest base keeps) is;
+  undamaged = sound;
 }
+
+pub sound_kept : {T : Type 0} {a b : Bool} (r : Result T StoreError) → OnOk r (b ≡ a) → OnOk r (a ≡ false → b ≡ false)
+sound_kept (Ok value) same = λ was. same ∙ was
+sound_kept (Err e) same = tt
 
 pub answered : {T : Type 0} (P : T → Type 0) (r : Result T StoreError) → Answers P r → IfOk r P
 answered P (Ok value) was = was
@@ -84,12 +89,14 @@ handed_cause {T} {U} s t P before now e cause answers = record {
   later = cause.later;
   failed = λ is. cause.failed (ap (λ (x : StoreError). Err x) (same_error {T = U} (Err e) e error.Device refl is));
   damaged = λ honest is base keeps. not_damaged (P base) (Err e) (answers honest base keeps) (ap (λ (x : StoreError). Err x) (same_error {T = U} (Err e) e error.Damaged refl is));
+  undamaged = tt;
 }
 
-pub none_there : {T : Type 0} (s : StoreState) (now place count : ℕ) → Honestly s.disk ((base : Base) → s.keeps base → place < length base.messages)
-    → Honestly s.disk ((base : Base) → s.keeps base → count ≡ length base.messages) → count ≤ place → HasStoreCause {T = T} s s now now (Err error.Damaged)
-none_there s now place count within many past = record {
+pub none_there : {T : Type 0} (s t : StoreState) (now place count : ℕ) → Honestly s.disk ((base : Base) → s.keeps base → place < length base.messages)
+    → t.disk ≡ s.disk → Honestly s.disk ((base : Base) → s.keeps base → count ≡ length base.messages) → count ≤ place → HasStoreCause {T = T} s t now now (Err error.Damaged)
+none_there s t now place count within same many past = record {
   later = omega arith;
   failed = λ is. absurd (cc);
-  damaged = λ honest is base keeps. let inside = within honest base keeps in let all = many honest base keeps in omega (arith, inside, all, past);
+  damaged = λ honest is base keeps. let was = subst (λ (d : DiskState). d.is_honest) same honest in let inside = within was base keeps in let all = many was base keeps in omega (arith, inside, all, past);
+  undamaged = tt;
 }

@@ -7,7 +7,7 @@ use Rattle.base_log.specs.Standing.{BaseBytes}
 use Rattle.base_store.specs.{Keys.place_at, Store.purged, declared.store_error.StoreError.StoreError}
 use Rattle.base_store.specs.declared.store_error.StoreError.TheVariants as error
 use Rattle.base_folder_store.specs.Opened.{IsLegible, IsNamed, IsOpen, IsWritten, committed_by, held_by, path_of}
-use Rattle.base_folder_store.specs.{Added.next_place, Added.with_stored, Held.HoldsBase, declared.folder.Folder.Folder, declared.leaving.PurgedBytes.PurgedBytes}
+use Rattle.base_folder_store.specs.{Vouched.AreBytesAt, Added.next_place, Added.with_stored, Held.HoldsBase, declared.folder.Folder.Folder, declared.leaving.PurgedBytes.PurgedBytes}
 
 -- A scanned message becomes its stub, and any other message stays.
 abbrev pub left_if : Bool → Filed → Filed
@@ -52,12 +52,24 @@ pub record HoldsLeft (keyed : ℕ → ℕ → List ℕ → ℕ) (base : Base) (w
   pub left : HoldsBase keyed held (first_left base place)
   pub shorter : place < length base.messages → length held.messages ≤ place_at was.keys place
 
--- The folder is purged up to this number: `next` has the purged messages before it. Eight bytes can count the messages.
+-- A message can be read of the bytes that the entry of this number names.
+pub record IsLegibleAt (held : BaseBytes) (i : ℕ) : Type 0 where
+  pub bytes : List ℕ
+  pub at : AreBytesAt held.messages held.keys i bytes
+  pub message : Filed
+  pub stored : IsStoredAlone message bytes
+
+-- Each scanned one of so many first messages can be read.
+abbrev pub AreLegible : BaseBytes → ℕ → Type 0
+AreLegible held count = (i : ℕ) → i < count → i < held.cursor → IsLegibleAt held i
+
+-- The folder is purged up to this number, and was read so far: `next` has the purged messages before it. Eight bytes can count the messages.
 pub record IsPurgedTo (disk : DiskState) (folder next : Folder) (place : ℕ) : Type 0 where
   pub paired : ArePaired disk folder next
   pub opened : Honestly disk (IsOpen disk next)
   pub few : next_place folder < 2 ^ 64
   pub left : Honestly disk ((keyed : ℕ → ℕ → List ℕ → ℕ) (base : Base) → HoldsBase keyed (committed_by disk next) base → HoldsLeft keyed base (committed_by disk next) place (held_by disk next))
+  pub read : Honestly disk (AreLegible (committed_by disk next) place)
 
 -- The folder has one message more, and eight bytes can still count the messages.
 pub record IsStagedFew (before after : DiskState) (old new : Folder) (bytes : List ℕ) (digest : ℕ) : Type 0 where

@@ -1,5 +1,5 @@
 -- A base folder as a store of messages.
-use Rattle.std.specs.Prelude.{ℕ, List, Option}
+use Rattle.std.specs.Prelude.{◌≡◌, ℕ, Bool, false, List, Option}
 use Rattle.disk_io.specs.Disk.{DiskState, Honestly, IsIn}
 use Rattle.echo_filed.specs.Filed.{Filed}
 use Rattle.base_store.specs.{Index.IsIndexOf, declared.index.Index.Index, Store.StoreState}
@@ -19,6 +19,7 @@ state_of disk keyed folder message = record {
   keeps = λ base. HoldsBase keyed (held_by disk folder) base;
   committed = λ base. HoldsBase keyed (committed_by disk folder) base;
   at_hand = message;
+  is_sound = Unit {0};
   represented = λ base c. RepresentsBase keyed (path_of folder) base c;
   is_own = λ m. IsIn (path_of folder) m;
   undoes = ⊥;
@@ -32,14 +33,15 @@ state_of disk keyed folder message = record {
 abbrev pub IsCached : DiskState → Folder → Index → Buffers → Type 0
 IsCached disk folder index buffers = Honestly disk (IsIndexOf (held_by disk folder).keys index × AreParts (held_by disk folder).messages (held_by disk folder).keys buffers)
 
--- The store, with one more premise for its calls.
-abbrev pub where_so : StoreState → Type 0 → StoreState
-where_so s so = record {
+-- The store, with one more premise for its calls. `unread` says that a look at it did not end well.
+abbrev pub where_so : StoreState → Type 0 → Bool → StoreState
+where_so s so unread = record {
   disk = s.disk;
   is_ready = s.is_ready × so;
   keeps = s.keeps;
   committed = s.committed;
   at_hand = s.at_hand;
+  is_sound = unread ≡ false;
   represented = s.represented;
   is_own = s.is_own;
   undoes = s.undoes;

@@ -10,7 +10,7 @@ use crate::folder::Folder;
 use crate::read_ahead::Buffers;
 use crate::sought::Id;
 use base_log::FolderIdentity;
-use base_store::{Digest, Index, PurgedStore, Store, StoreError};
+use base_store::{Digest, Index, PurgedStore, Store, StoreError, note_look};
 use disk_io::Disk;
 use echo_filed::{Filed, Key};
 use std::alloc::Global;
@@ -28,6 +28,8 @@ pub struct FolderStore<D: Disk, H: Digest> {
     index: Index,
     buffers: Buffers,
     message: Option<Filed>,
+    // A look at the messages did not end well.
+    unread: bool,
     digests: PhantomData<H>,
 }
 
@@ -43,6 +45,7 @@ impl<D: Disk, H: Digest> FolderStore<D, H> {
             → (⟦<FolderStore<D, H> as Store>⟧.state result).committed base }
         ensures disk { result.disk ≡ disk }
         ensures folder { result.folder ≡ folder }
+        ensures unread { result.unread ≡ false }
     {
         FolderStore {
             alloc,
@@ -51,6 +54,7 @@ impl<D: Disk, H: Digest> FolderStore<D, H> {
             index: Index::new(alloc),
             buffers: Buffers::new(alloc),
             message: None,
+            unread: false,
             digests: PhantomData,
         }
     }
@@ -91,6 +95,7 @@ impl<D: Disk, H: Digest> FolderStore<D, H> {
         ensures looks { LooksOn (⟦<FolderStore<D, H> as Store>⟧.state self.old) (⟦<FolderStore<D, H> as Store>⟧.state self.new) }
         ensures disk { self.new.disk ≡ self.old.disk }
         ensures folder { self.new.folder ≡ self.old.folder }
+        ensures unread { self.new.unread ≡ self.old.unread }
     {
         'keys: for i in 0..keys.len() {
             self.expect_one(&keys[i]);
@@ -102,6 +107,7 @@ impl<D: Disk, H: Digest> FolderStore<D, H> {
         ensures looks { LooksOn (⟦<FolderStore<D, H> as Store>⟧.state self.old) (⟦<FolderStore<D, H> as Store>⟧.state self.new) }
         ensures disk { self.new.disk ≡ self.old.disk }
         ensures folder { self.new.folder ≡ self.old.folder }
+        ensures unread { self.new.unread ≡ self.old.unread }
     {
         if let Ok(digest) = self.folder.digest_of_key::<H>(self.alloc, key) {
             self.index.expect(self.alloc, digest);
@@ -110,7 +116,7 @@ impl<D: Disk, H: Digest> FolderStore<D, H> {
 }
 
 impl<D: Disk, H: Digest> Store for FolderStore<D, H> {
-    ghost state = { λ store. where_so (state_of (D.state store.disk) H.keyed store.folder store.message) (IsCached (D.state store.disk) store.folder store.index store.buffers) };
+    ghost state = { λ store. where_so (state_of (D.state store.disk) H.keyed store.folder store.message) (IsCached (D.state store.disk) store.folder store.index store.buffers) store.unread };
 
     ghost failures = { λ store. D.failures store.disk };
 
@@ -124,22 +130,29 @@ impl<D: Disk, H: Digest> Store for FolderStore<D, H> {
 
     fn knows(&mut self, key: &Key) -> Result<bool, StoreError> {
         let digest = self.folder.digest_of_key::<H>(self.alloc, key)?;
-        self.folder
-            .find(self.alloc, &mut self.disk, &mut self.index, key, digest)
+        let found = self
+            .folder
+            .find(self.alloc, &mut self.disk, &mut self.index, key, digest);
+        note_look(&mut self.unread, &found);
+        found
     }
 
     fn has_id(&mut self, msgid: &[u8]) -> Result<bool, StoreError> {
         let digest = self.folder.digest::<H>(msgid);
-        self.folder.find(
+        let found = self.folder.find(
             self.alloc,
             &mut self.disk,
             &mut self.index,
             &Id { msgid },
             digest,
-        )
+        );
+        note_look(&mut self.unread, &found);
+        found
     }
 
     fn fetch(&mut self, place: usize) -> Result<(), StoreError> {
+        let unread = self.unread;
+        self.unread = true;
         if place >= self.folder.count() {
             return Err(StoreError::Damaged);
         }
@@ -149,6 +162,7 @@ impl<D: Disk, H: Digest> Store for FolderStore<D, H> {
             .folder
             .read(self.alloc, &mut self.disk, &mut self.buffers, place)?;
         self.message = Some(message);
+        self.unread = unread;
         Ok(())
     }
 

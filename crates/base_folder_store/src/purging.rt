@@ -6,7 +6,7 @@ ghost use Rattle.echo_filed.specs.Stubs.{is_stub};
 ghost use Rattle.base_log.specs.AtRest.{IsAtRest};
 ghost use Rattle.base_store.specs.Store.{purged};
 ghost use Rattle.base_folder_store.specs.Calls.{CommitsOnly, HasWriteCause, StagesOnly, StaysInFiles, StaysOpen};
-ghost use Rattle.base_folder_store.specs.Left.{ArePaired, HasPurgeCause, IsPurgedTo, IsReadable, IsStagedFew, changed_in};
+ghost use Rattle.base_folder_store.specs.Left.{AreLegible, ArePaired, HasPurgeCause, IsPurgedTo, IsReadable, IsStagedFew, changed_in};
 ghost use Rattle.base_folder_store.specs.{Added.IsFull, Added.LacksRoom, Answers.HasReadCause, Held.HoldsBase, Opened.IsOpen, Opened.committed_by, Opened.held_by, Opened.path_of, State.IsUsable};
 
 use crate::folder::Folder;
@@ -143,6 +143,7 @@ impl Folder {
         ensures count { Honestly (D.state disk.new) ((keyed : ℕ → ℕ → List ℕ → ℕ) (base : Base) → HoldsBase keyed (held_by (D.state disk.old) self.old) base
             → IfOk result (λ count. count ≡ count_by (λ m. not (is_stub m)) (take base.cursor base.messages))) }
         ensures committed { Honestly (D.state disk.new) (OnOk result (committed_by (D.state disk.new) self.new ≡ held_by (D.state disk.old) self.old)) }
+        ensures read { Honestly (D.state disk.new) (OnOk result (AreLegible (held_by (D.state disk.old) self.old) (length (held_by (D.state disk.old) self.old).keys / 16))) }
         ensures run { CommitsOnly (path_of self.old) (committed_by (D.state disk.old) self.old) (held_by (D.state disk.old) self.old) (D.state disk.old) (D.state disk.new) }
         ensures cause { HasPurgeCause (D.state disk.new) (held_by (D.state disk.old) self.old) (D.failures disk.old) (D.failures disk.new) result }
         ensures many { IsErrOf result StoreError.TooMany → IsFull self.old }

@@ -5,8 +5,8 @@ use Rattle.disk_io.specs.{Device.Failed, Disk.Honestly}
 use Rattle.base_file.specs.Base.{Base}
 use Rattle.base_store.specs.{Store.StoreState, Store.HasStoreCause, declared.store_error.StoreError.StoreError}
 
-pub no_cause : {T : Type 0} (old new : StoreState) (before now : ℕ) (value : T) → before ≤ now → HasStoreCause old new before now (Ok value)
-no_cause old new before now value later = record { later = later; failed = λ e. absurd (cc); damaged = λ honest e base h. cc }
+pub no_cause : {T : Type 0} (old new : StoreState) (before now : ℕ) (value : T) → before ≤ now → (old.is_sound → new.is_sound) → HasStoreCause old new before now (Ok value)
+no_cause old new before now value later sound = record { later = later; failed = λ e. absurd (cc); damaged = λ honest e base h. cc; undamaged = sound }
 
 pub failed_since : (before mid now : ℕ) → before ≤ mid → Failed mid now → Failed before now
 failed_since before mid now h1 h2 = grind (arith, eq-or-lt_of_le)

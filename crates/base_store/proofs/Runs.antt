@@ -6,7 +6,7 @@ use Rattle.base_file.specs.Base.{Base}
 use Rattle.base_store.specs.Store.{StoreState, CommitsNothing, GoesOn, IsSameStore, KeepsOthers, LooksOn, LeavesCommitted}
 
 pub same_store : (s : StoreState) → IsSameStore s s
-same_store s = record { represented = λ base c. (λ h. h, λ h. h); own = λ m. (λ h. h, λ h. h); undoes = (λ h. h, λ h. h) }
+same_store s = record { represented = λ base c. (λ h. h, λ h. h); own = λ m. (λ h. h, λ h. h); undoes = (λ h. h, λ h. h); sound = λ h. h }
 
 pub same_twice : (old mid new : StoreState) → IsSameStore old mid → IsSameStore mid new → IsSameStore old new
 same_twice old mid new first second = grind arith

@@ -1,5 +1,5 @@
 -- The messages of a store, and the effects of its calls on them.
-use Rattle.std.specs.Prelude.{◌≡◌, ◌≤◌, ◌⊎◌, ◌↔◌, ℕ, List, [], ◌∷◌, ◌++◌, length, map, take, drop, Option, None, Result, IsErrOf}
+use Rattle.std.specs.Prelude.{◌≡◌, ◌≤◌, ◌⊎◌, ◌↔◌, ℕ, List, [], ◌∷◌, ◌++◌, length, map, take, drop, Option, None, Result, IsErrOf, OnOk}
 use Rattle.disk_io.specs.{Device.Failed, Disk.DiskState, Disk.Files, Disk.Honestly, Runs.LeavesOnly, Runs.ChangesNothing, declared.disk_error.DiskError.DiskError}
 use Rattle.base_file.specs.Base.{Base}
 use Rattle.echo_filed.specs.{Filed.Filed, Stubs.stub_of}
@@ -23,6 +23,8 @@ pub record StoreState : Type 1 where
   pub committed : Base → Type 0
   -- The current message, fetched last.
   pub at_hand : Option Filed
+  -- Each look at its messages so far has ended well.
+  pub is_sound : Type 0
   -- Files that a crash left represent this base.
   pub represented : Base → Files → Type 0
   -- The paths that belong to the store.
@@ -49,10 +51,12 @@ abbrev pub purged : Base → Base
 purged base = record { messages = map stub_of (take base.cursor base.messages) ++ drop base.cursor base.messages; cursor = base.cursor }
 
 -- Files represent the same bases, the same paths belong to the store, and it undoes failed changes exactly if it did before.
+-- A look that did not end well is not forgotten.
 pub record IsSameStore (old new : StoreState) : Type 0 where
   pub represented : (base : Base) (c : Files) → new.represented base c ↔ old.represented base c
   pub own : (m : List ℕ) → new.is_own m ↔ old.is_own m
   pub undoes : new.undoes ↔ old.undoes
+  pub sound : new.is_sound → old.is_sound
 
 -- A look at the store changes only the current message.
 pub record LooksOn (old new : StoreState) : Type 0 where
@@ -119,11 +123,12 @@ abbrev pub Undoes : StoreState → StoreState → Type 0
 Undoes old new = Honestly new.disk (old.undoes → (base : Base) → old.keeps base → new.keeps base)
 
 -- The store reports a failure of the device only if the count of failures rose. On an honest disk it reports damage
--- only if it holds no base.
+-- only if it holds no base. What ends well met no such look.
 pub record HasStoreCause {T : Type 0} (old new : StoreState) (before now : ℕ) (result : Result T StoreError) : Type 0 where
   pub later : before ≤ now
   pub failed : IsErrOf result error.Device → Failed before now
   pub damaged : Honestly new.disk (IsErrOf result error.Damaged → (base : Base) → old.keeps base → ⊥)
+  pub undamaged : OnOk result (old.is_sound → new.is_sound)
 
 -- The disk of a store without files.
 abbrev pub no_disk : DiskState

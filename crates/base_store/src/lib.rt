@@ -10,6 +10,7 @@ mod expected;
 mod index;
 mod laws;
 mod memory_store;
+mod noting;
 mod sip;
 mod store;
 mod store_error;
@@ -23,6 +24,7 @@ pub use laws::{
     equal_keys_have_one_digest,
 };
 pub use memory_store::MemoryStore;
+pub use noting::note_look;
 pub use sip::SipDigest;
 pub use store::{PurgedStore, Store};
 pub use store_error::StoreError;

@@ -37,6 +37,7 @@ impl<S: BuildHasher> Store for MemoryStore<S> {
       keeps = λ base. base ≡ store.base;
       committed = λ base. Unit {0};
       at_hand = slice_get store.base.messages store.place;
+      is_sound = Unit {0};
       represented = λ base c. Unit {0};
       is_own = λ m. ⊥;
       undoes = Unit {0};

@@ -14,6 +14,8 @@ use echo_filed::{Filed, Key};
 ///
 /// Answers and preconditions about messages hold only if the disk was honest until then: files that others change may
 /// answer anything.
+///
+/// A store whose look met a damaged message is no longer sound.
 pub trait Store {
     // The messages that it holds, and what a crash may leave.
     ghost state: { Self → StoreState };
@@ -35,6 +37,7 @@ pub trait Store {
         requires { (state self.old).is_ready }
         ensures found { Honestly (state self.new).disk ((base : Base) → (state self.old).keeps base → IfOk result (λ found. found ≡ is_known base.messages key.now)) }
         ensures looks { LooksOn (state self.old) (state self.new) }
+        ensures noted { IsErrOf result StoreError.Damaged → (state self.new).is_sound → ⊥ }
         ensures many { IsErrOf result StoreError.TooMany → (state self.old).is_full }
         ensures cause { HasStoreCause (state self.old) (state self.new) (failures self.old) (failures self.new) result };
 
@@ -43,6 +46,7 @@ pub trait Store {
         requires { (state self.old).is_ready }
         ensures found { Honestly (state self.new).disk ((base : Base) → (state self.old).keeps base → IfOk result (λ found. found ≡ list_any (has_id msgid.now) base.messages)) }
         ensures looks { LooksOn (state self.old) (state self.new) }
+        ensures noted { IsErrOf result StoreError.Damaged → (state self.new).is_sound → ⊥ }
         ensures many { IsErrOf result StoreError.TooMany → (state self.old).is_full }
         ensures cause { HasStoreCause (state self.old) (state self.new) (failures self.old) (failures self.new) result };
 
@@ -52,6 +56,7 @@ pub trait Store {
         requires within { Honestly (state self.old).disk ((base : Base) → (state self.old).keeps base → place < length base.messages) }
         ensures fetched { Honestly (state self.new).disk ((base : Base) → (state self.old).keeps base → OnOk result ((state self.new).at_hand ≡ slice_get base.messages place)) }
         ensures looks { LooksOn (state self.old) (state self.new) }
+        ensures noted { IsErrOf result StoreError.Damaged → (state self.new).is_sound → ⊥ }
         ensures many { IsErrOf result StoreError.TooMany → (state self.old).is_full }
         ensures cause { HasStoreCause (state self.old) (state self.new) (failures self.old) (failures self.new) result };
 

@@ -64,7 +64,7 @@ pub may_after : {A : Type 0} (old mid new : StoreState) (result : Result A Comma
     → IfErr result (LooksWhereMet mid new) → IfErr result (MayCommitWhereMet old new)
 may_after old mid new result h1 h2 h3 h4 = grind (arith, may_then_none, either_then)
 
-pub caused_after : {T : Type 0} (old mid new : StoreState) (before between now : ℕ) (r : Result T StoreError) → before ≤ between
+pub caused_after : {T : Type 0} (old mid new : StoreState) (before between now : ℕ) (r : Result T StoreError) → before ≤ between → (old.is_sound → mid.is_sound)
     → Honestly new.disk ((base : Base) → old.keeps base → (next : Base) × mid.keeps next) → HasStoreCause mid new between now r → HasStoreCause old new before now r
-caused_after old mid new before between now (Ok value) le holds cause = let passed = cause.later in no_cause old new before now value (omega (arith))
-caused_after old mid new before between now (Err e) le holds cause = cause_after old mid new before between now (Err e) e le holds refl cause
+caused_after old mid new before between now (Ok value) le sound holds cause = let passed = cause.later in no_cause old new before now value (omega (arith)) (λ was. cause.undamaged (sound was))
+caused_after old mid new before between now (Err e) le sound holds cause = cause_after old mid new before between now (Err e) e le holds refl cause

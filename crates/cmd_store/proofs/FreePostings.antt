@@ -8,10 +8,10 @@ use Rattle.cmd_status.specs.{declared.fault.Fault.TheVariants.OutOfMemory, Devic
 use Rattle.model_steps.specs.{declared.draft.Draft.Draft, declared.fault.PostFault.PostFault, declared.stamp.Stamp.Stamp, Posting.post_refusal, Posting.posted, SystemState.SystemState}
 use Rattle.model_steps.specs.declared.fault.PostFault.TheVariants as fault
 use Rattle.model_steps.proofs.FirstRefusals.{refusal_first}
-use Rattle.base_store.specs.Store.{LooksOn, StoreState, with_message}
+use Rattle.base_store.specs.Store.{HasStoreCause, LooksOn, StoreState, with_message}
 use Rattle.base_store.proofs.Runs.{looks_twice, no_look}
 use Rattle.echo_text.specs.Ids.{id_of}
-use Rattle.echo_toss.specs.{declared.step_error.PostStepError.PostStepError, PacketsIn.state_in, Stores.IsPostStop, Stores.LooksWhereRefused}
+use Rattle.echo_toss.specs.{declared.step_error.PostStepError.PostStepError, PacketsIn.state_in, Stores.IsPostStop, Stores.LooksWhereRefused, Stores.post_answer}
 use Rattle.echo_toss.specs.declared.step_error.PostStepError.TheVariants as post
 use Rattle.echo_toss.proofs.Judged.{is_fault}
 use Rattle.cmd_store.specs.{FreeSerial.FiledAs, FreeSerial.FilesAs, FreeSerial.IsSerial, FreeSerial.PostsAs, FreeSerial.PostsAsOn, declared.drafting.NewMessage.NewMessage, Serials.is_taken, Serials.serial_after, Serials.with_serial, Lines.posted_line, Drafts.draft_given, declared.command_error.CommandError.CommandError, declared.command_error.CommandError.TheVariants.Met, Answered.PrintsAll, Posted.Posts, Posted.PostsOn, Stops.post_stop}
@@ -22,6 +22,7 @@ use Rattle.cmd_store.proofs.Postings.{post_printed, post_stopped, posts}
 pub record HasLooked (file : LinkFile) (old mid : StoreState) (first now start serial steps : ℕ) : Type 0 where
   pub looks : LooksOn old mid
   pub later : first ≤ now
+  pub sound : old.is_sound → mid.is_sound
   pub place : serial ≡ serial_after start steps
   pub taken : Honestly mid.disk ((base : Base) → old.keeps base → (k : ℕ) → k < steps → is_taken file base.messages (serial_after start k) ≡ true)
 
@@ -29,11 +30,12 @@ pub none_looked : (file : LinkFile) (old : StoreState) (first start : ℕ) → o
 none_looked file old first start ready small = grind (arith, no_look)
 
 pub one_more_looked : (file : LinkFile) (old mid new : StoreState) (first now then start serial steps : ℕ) (tag : List ℕ) (draft : Draft) (stamp : Stamp) → HasLooked file old mid first now start serial steps
-    → LooksOn mid new → now ≤ then → Honestly new.disk ((base : Base) → mid.keeps base → post_refusal file base.messages tag draft serial stamp ≡ Some fault.KnownSerial)
+    → LooksOn mid new → now ≤ then → (mid.is_sound → new.is_sound) → Honestly new.disk ((base : Base) → mid.keeps base → post_refusal file base.messages tag draft serial stamp ≡ Some fault.KnownSerial)
     → HasLooked file old new first then start ((serial + 1) % 2 ^ 32) (steps + 1)
-one_more_looked file old mid new first now then start serial steps tag draft stamp so looks later known = record {
+one_more_looked file old mid new first now then start serial steps tag draft stamp so looks later sound known = record {
   looks = looks_twice old mid new so.looks looks;
   later = let before = so.later in omega (arith, before, later);
+  sound = λ was. sound (so.sound was);
   place = next_step start steps serial so.place;
   taken = λ honest base h.
       one_more file base.messages start steps (so.taken (looks.quiet.honest honest) base h)
@@ -61,6 +63,10 @@ refused_on file new words draft serial base (post.Store cause) is unless = tt
 pub looks_known : (mid new : StoreState) (why : PostStepError) → why ≡ post.Refused fault.KnownSerial → LooksWhereRefused mid new why → LooksOn mid new
 looks_known mid new (post.Refused why) known looks = looks
 looks_known mid new (post.Store cause) known looks = absurd (cc)
+
+pub sound_known : (mid new : StoreState) (before now : ℕ) (why : PostStepError) → why ≡ post.Refused fault.KnownSerial → HasStoreCause {T = Unit {0}} mid new before now (post_answer {T = Unit {0}} (Err why)) → mid.is_sound → new.is_sound
+sound_known mid new before now (post.Refused why) known cause = cause.undamaged
+sound_known mid new before now (post.Store cause) known so = absurd (cc)
 
 pub refused_known : (file : LinkFile) (base : List Filed) (tag : List ℕ) (draft : Draft) (serial : ℕ) (stamp : Stamp) (why : PostStepError) → why ≡ post.Refused fault.KnownSerial
     → IsPostStop file base tag draft serial stamp why → post_refusal file base tag draft serial stamp ≡ Some fault.KnownSerial

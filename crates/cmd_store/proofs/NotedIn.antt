@@ -19,6 +19,7 @@ pub record HasNotedIn (limits : Limits) (sender : Address) (file : LinkFile) (ol
   pub within : given ≤ limits.messages
   pub device : still ≡ failed
   pub later : first ≤ now
+  pub sound : old.is_sound → mid.is_sound
   pub free : room
 
 pub begun_noted : (limits : Limits) (sender : Address) (file : LinkFile) (old : StoreState) (first : ℕ) (before : Option (List ℕ)) (tally : Tally) (text : List ℕ) (failed : ℕ) (room : Type 0) → old.is_ready → tally ≡ tally_of [] → room
@@ -31,5 +32,6 @@ begun_noted limits sender file old first before tally text failed room ready non
   within = omega arith;
   device = refl;
   later = omega arith;
+  sound = λ was. was;
   free = free;
 }

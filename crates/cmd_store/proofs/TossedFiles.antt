@@ -24,6 +24,7 @@ pub record HasTossedFiles {P R : Type 0} (honest : P → Type 0) (noting : Bool)
   pub on : GoesOn old mid
   pub commits : CommitsNothing old mid
   pub later : first ≤ now
+  pub sound : old.is_sound → mid.is_sound
 
 pub begun_files : {P R : Type 0} (honest : P → Type 0) (noting : Bool) (limits : Limits) (device : R → Device) (file : LinkFile) (old : StoreState) (first : ℕ) (files : List Coming) (lines : List ℕ) (at : P) → old.is_ready
     → HasTossedFiles honest noting limits device file old old first first files files lines lines at
@@ -36,8 +37,8 @@ pub more_files : {P R : Type 0} (honest : P → Type 0) (noting : Bool) (limits 
     → HasTossedFiles honest noting limits device file old mid first now files left lines more at → (honest opens → honest at)
     → OpensNext (honest opens) (λ r. (device r).contents) left later (Some (Ok reader))
     → Honestly new.disk ((base : Base) → mid.keeps base → TossesNext noting limits file base (device reader) (device behind) more all (Ok None) new)
-    → GoesOn mid new → CommitsNothing mid new → now ≤ then → HasTossedFiles honest noting limits device file old new first then files later lines all opens
-more_files {P} honest noting limits device file old mid new first now then files left later lines more all at opens reader behind so was opened tossed on commits le = record {
+    → GoesOn mid new → CommitsNothing mid new → now ≤ then → (mid.is_sound → new.is_sound) → HasTossedFiles honest noting limits device file old new first then files later lines all opens
+more_files {P} honest noting limits device file old mid new first now then files left later lines more all at opens reader behind so was opened tossed on commits le sound = record {
   each = λ is_honest base kept.
       let kept_so = so.each (on.honest is_honest) base kept in
       let t = tossed is_honest kept_so.0 kept_so.1 in
@@ -51,6 +52,7 @@ more_files {P} honest noting limits device file old mid new first now then files
   on = goes_on_twice old mid new so.on on;
   commits = commits_none old mid new so.commits so.on commits;
   later = let earlier = so.later in omega (arith, earlier, le);
+  sound = λ first. sound (so.sound first);
 }
 
 pub stopped_files : {P R : Type 0} (honest : P → Type 0) (noting : Bool) (limits : Limits) (device : R → Device) (file : LinkFile) (old mid new : StoreState) (first now : ℕ) (files left later : List Coming) (lines more all : List ℕ) (at opens : P) (reader behind : R)

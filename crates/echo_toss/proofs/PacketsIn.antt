@@ -26,6 +26,7 @@ pub record HasGoneIn (limits : Limits) (sender : Address) (file : LinkFile) (old
   pub within : given ≤ limits.messages
   pub device : still ≡ failed
   pub later : first ≤ now
+  pub sound : old.is_sound → mid.is_sound
 
 none_gone : (limits : Limits) (sender : Address) (s : SystemState) (before : Option (List ℕ)) (failed : ℕ) → HasGone limits sender s before before 0 58 (tally_of []) s failed failed
 none_gone limits sender s before failed = grind (arith, Consumes-nil)
@@ -44,6 +45,7 @@ begun limits sender file old first before tally failed ready none =
       within = omega arith;
       device = refl;
       later = omega arith;
+      sound = λ was. was;
     }
 
 counted_same : (limits : Limits) (sender : Address) (s t : SystemState) (before left : Option (List ℕ)) (given at : ℕ) (tried tally : Tally) (failed still : ℕ) → HasGone limits sender s before left given at tried t failed still

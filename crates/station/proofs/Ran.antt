@@ -9,7 +9,7 @@ use Rattle.base_store.proofs.Runs.{same_store}
 use Rattle.cmd_store.specs.{Answered.HasCommitted, Answered.MayMake, Answered.RepresentsMade, Answered.StaysWhereMet, Bounded.IsPast, Bounded.StaysTooMany, Stops.store_answer}
 use Rattle.cmd_store.specs.declared.command_error.CommandError.{CommandError, TheVariants.Met, TheVariants.Store}
 use Rattle.station.specs.Place.{IsOfPlace, KeepsElsewhere, Place, SameElsewhere, RepresentsAlone, RepresentsOrWasLeft}
-use Rattle.station.specs.Running.{IsKept, IsRunOn, MadeOrWasLeft, NeedsBase, RepresentsAsBefore, RepresentsWhereMet}
+use Rattle.station.specs.Running.{EndsSound, IsKept, IsRunOn, MadeOrWasLeft, NeedsBase, RepresentsAsBefore, RepresentsWhereMet}
 use Rattle.station.specs.Opening.{IsOpenFor}
 use Rattle.echo_filed.specs.Filed.{Filed}
 
@@ -160,3 +160,9 @@ pub stopped_on : (place : Place) (d0 d2 : DiskState) (s : StoreState) → IsOpen
     → (base : Base) → place.represents base d0.seen → RepresentsAsBefore place d0 d2 base
 stopped_on place d0 d2 s begun of quiet ready honest base represented =
     as_before place d0 d2 s s begun of quiet base represented (same_store s) ready honest (begun.committed base represented) (begun.run base represented)
+
+-- a command that ended well looked at no damaged message
+pub ends_sound : {A K : Type 0} (state : K → StoreState) (kept : K) (s0 s1 : StoreState) (now : DiskState) (result : Result A CommandError) → s0.is_sound → (s0.is_sound → s1.is_sound)
+    → OnOk (store_answer result) (s1.is_sound → (state kept).is_sound) → ChangesNothing (state kept).disk now → OnOk result (EndsSound state now)
+ends_sound state kept s0 s1 now (Ok done) sound looked ran quiet = record { kept = kept; sound = ran (looked sound); quiet = quiet }
+ends_sound state kept s0 s1 now (Err why) sound looked ran quiet = tt

@@ -28,6 +28,7 @@ pub record IsOpened (place : Place) (Reads : LinkFile → Type 0) (old : DiskSta
   pub begun : Honestly s.disk (IsOpenFor place old s)
   pub of_place : IsOfPlace place old s
   pub later : before ≤ now
+  pub sound : s.is_sound
 
 -- The station is not opened, for this reason. A crash during the opening leaves the base from before.
 pub record IsNotOpened (place : Place) (Shut : Fault → Type 0) (old new : DiskState) (fault : Fault) : Type 0 where

@@ -90,3 +90,9 @@ pub record IsRefusedFull {K : Type 0} (state : K → StoreState) (held : Bool) (
   pub of_place : IsOfPlace place old (state kept)
   pub past : IsPast held state (Adds file) (May file) (state kept)
   pub crash : (base : Base) → place.represents base old.seen → LeavesOnly old new (RepresentsOrWasLeft place old base)
+
+-- The disk is that of a store of the station, and each look at its messages ended well.
+pub record EndsSound {K : Type 0} (state : K → StoreState) (now : DiskState) : Type 0 where
+  pub kept : K
+  pub sound : (state kept).is_sound
+  pub quiet : ChangesNothing (state kept).disk now

@@ -19,6 +19,7 @@ pub trait BeforeCommand<'a, S: Store> {
         requires { (S.state store.old).is_ready }
         ensures looks { LooksOn (S.state store.old) (S.state store.new) }
         ensures later { S.failures store.old ≤ S.failures store.new }
+        ensures undamaged { OnOk result ((S.state store.old).is_sound → (S.state store.new).is_sound) }
         ensures stopped { IfErr result (stops self.old self.new) }
         ensures passed { OnOk result (lets self.old) };
 }

@@ -55,5 +55,6 @@ pub trait LendStation<'a, D: Disk>: OpenStation<'a, D> {
         requires off { (m : List ℕ) → (Self.Kept.state kept.old).is_own m → J.changes_at job.now m → ⊥ }
         requires can { J.can_run job.now (Self.Kept.state kept.old).disk }
         ensures used { IsUsedAt (J.changes_at job.now) (Self.Kept.state kept.old) (Self.Kept.state kept.new) }
+        ensures undamaged { (Self.Kept.state kept.old).is_sound → (Self.Kept.state kept.new).is_sound }
         ensures done { J.has_run job.now (Self.Kept.state kept.old).disk (Self.Kept.state kept.new).disk (Self.Kept.failures kept.old) (Self.Kept.failures kept.new) result };
 }

@@ -2,7 +2,7 @@
 ghost use Rattle.std.specs.Prelude.{◌⊎◌, IsErrOf, OnOk};
 ghost use Rattle.disk_io.specs.{Disk.Honestly, Runs.ChangesNothing};
 ghost use Rattle.cmd_status.specs.Devices.{output_of};
-ghost use Rattle.station.specs.{Opening.AreFree, Opening.HaveFailed, Place.KeepsElsewhere, Running.IsNotRun, Running.IsRefusedFull, Running.NeedsBase, Running.RunsIn};
+ghost use Rattle.station.specs.{Opening.AreFree, Opening.HaveFailed, Place.KeepsElsewhere, Running.EndsSound, Running.IsNotRun, Running.IsRefusedFull, Running.NeedsBase, Running.RunsIn};
 ghost use Rattle.base_store.specs.declared.store_error.StoreError.TheVariants.{TooMany};
 ghost use Rattle.cmd_store.specs.declared.command_error.CommandError.TheVariants.{Store};
 
@@ -62,6 +62,7 @@ pub fn run_command<
         (D.state disk) (D.state result.disk) result.done) }
     ensures elsewhere { KeepsElsewhere (P.place station) (D.state disk) (D.state result.disk) }
     ensures passed { OnOk result.done (Q.lets before.old) }
+    ensures undamaged { OnOk result.done (EndsSound P.Kept.state (D.state result.disk)) }
 {
     match lock_and_open(alloc, disk, locks, station) {
         Ok(opened) => {

@@ -30,6 +30,7 @@ module _ (keyed : ℕ → ℕ → List ℕ → ℕ) (path : List ℕ) (d0 : Disk
     begun = λ honest. record { keeps = (begun honest).keeps; committed = (begun honest).committed; run = λ base represented. left_as s.disk base ((begun honest).run base represented) };
     of_place = record { own = λ m. (of.own m).0; represented = of.represented; elsewhere = elsewhere_of s.disk of.outside };
     later = later;
+    sound = of.sound;
   }
 
   -- where the folder holds no base, nothing was changed

@@ -1,5 +1,5 @@
 -- The reasons of failed calls of a store on a base file.
-use Rattle.std.proofs.Common.{◌≡◌, ◌≤◌, ◌⊎◌, ◌/◌, ◌^◌, ℕ, List, length, Result, Ok, Err, Some, refl, subst}
+use Rattle.std.proofs.Common.{◌≡◌, ◌≤◌, ◌⊎◌, ◌/◌, ◌^◌, ℕ, Bool, false, List, length, Result, Ok, Err, Some, refl, subst}
 use Rattle.std.specs.Prelude.{All, IsErrOf, OnErr, OnOk, ◌≢◌}
 use Rattle.disk_io.specs.{Disk.DiskState, Disk.Honestly, Disk.bytes_in, Runs.LeavesOnly, Runs.OneStepOn}
 use Rattle.disk_atomic.specs.{Changes.ChangesOnly, Changes.HasOnDisk, Replacing.Replaces, StagingPaths.staging_path}
@@ -11,24 +11,25 @@ use Rattle.base_folder_store.specs.Answers.{Answers, HasReadCause}
 use Rattle.station_bases.specs.{Entries.CanLookUp, Entries.HoldEntries, Entries.file_bytes, InFile.IsHeld, InFile.IsOfFile, InFile.file_state, declared.entries.Entries.Entries}
 use Rattle.station_bases.specs.declared.held.Held.{TheVariants.Apart, Held}
 use Rattle.station_bases.proofs.{EntryMore.few_held, EntryMore.held_loads, EntryMore.many_held, Written.may_commit, Written.put_now, Written.put_run}
-use Rattle.base_folder_store.proofs.Stated.{not_damaged}
+use Rattle.base_folder_store.proofs.{Causes.on_ok_from, Stated.not_damaged}
 
-module _ {S T : Type 0} (path own : List ℕ) (held later : Held S T) (d0 d1 : DiskState) (p0 p1 : ℕ) where
+module _ {S T : Type 0} (path own : List ℕ) (held later : Held S T) (d0 d1 : DiskState) (p0 p1 : ℕ) (u0 u1 : Bool) where
   pub file_cause : {A : Type 0} (P : Base → A → Type 0) (before now : ℕ) (r : Result A StoreError) → HasReadCause before now r → Honestly d1 ((b : Base) → IsHeld d0 path held b → Answers (P b) r)
-      → HasStoreCause (file_state d0 path own held p0) (file_state d1 path own later p1) before now r
-  file_cause P before now r cause answers = record {
+      → OnOk r (u0 ≡ false → u1 ≡ false) → HasStoreCause (file_state d0 path own held p0 u0) (file_state d1 path own later p1 u1) before now r
+  file_cause P before now r cause answers sound = record {
     later = cause.later;
     failed = cause.failed;
     damaged = λ honest is base keeps. not_damaged (P base) r (answers honest base keeps) is;
+    undamaged = sound;
   }
 
 -- a commit of a base file with its messages in the file
-module _ (S T : Type 0) (path own : List ℕ) (e f : Entries) (d0 d1 : DiskState) (p0 p1 : ℕ) where
+module _ (S T : Type 0) (path own : List ℕ) (e f : Entries) (d0 d1 : DiskState) (p0 p1 : ℕ) (u : Bool) where
   abbrev before : StoreState
-  before = file_state {S = S} {T = T} d0 path own (Apart e) p0
+  before = file_state {S = S} {T = T} d0 path own (Apart e) p0 u
 
   abbrev after : StoreState
-  after = file_state {S = S} {T = T} d1 path own (Apart f) p1
+  after = file_state {S = S} {T = T} d1 path own (Apart f) p1 u
 
   abbrev file : List ℕ
   file = bytes_in (d0.seen path)
@@ -47,10 +48,10 @@ module _ (S T : Type 0) (path own : List ℕ) (e f : Entries) (d0 d1 : DiskState
   apart_committed (Err failed) plain can written held honest = tt
 
   pub apart_either : ChangesOnly (IsOfFile path own) d0 d1 → Honestly d1 (LeavesOnly d0 d1 (OneStepOn (Replaces path (staging_path path own) (file_bytes file e)) d0)) → MayCommit before after
-  apart_either changes run = may_commit {S = S} {T = T} path own (Apart e) (Apart f) d0 d1 p0 p1 changes (λ honest b h. put_run path own (file_bytes file e) b d0 d1 (says b h) (run honest))
+  apart_either changes run = may_commit {S = S} {T = T} path own (Apart e) (Apart f) d0 d1 p0 p1 u u (λ h. h) changes (λ honest b h. put_run path own (file_bytes file e) b d0 d1 (says b h) (run honest))
 
   pub apart_cause : {A : Type 0} (r : Result A StoreError) (from now : ℕ) → HasReadCause from now r → (IsErrOf r error.Damaged → (2 ^ 32 ≤ e.cursor) ⊎ (2 ^ 32 ≤ length e.keys.items / 16)) → HasStoreCause before after from now r
-  apart_cause r from now cause damaged = record { later = cause.later; failed = cause.failed; damaged = λ honest is b h. few_held file e b h (damaged is) }
+  apart_cause r from now cause damaged = record { later = cause.later; failed = cause.failed; damaged = λ honest is b h. few_held file e b h (damaged is); undamaged = on_ok_from r (λ h. h) }
 
 -- a message that was not added
 pub undone_apart : {S T A : Type 0} (d : DiskState) (path : List ℕ) (held : Held S T) (e f : Entries) → held ≡ Apart e → (r : Result A StoreError) → ((file : List ℕ) (base : Base) → HoldEntries file e base → OnErr r (HoldEntries file f base))

@@ -72,9 +72,9 @@ module _ (path : List ℕ) (d e : DiskState) (run : ChangesOnly (Outside path) d
         keys_behind = was.keys_behind;
       }
 
-module _ (keyed : ℕ → ℕ → List ℕ → ℕ) (f : Folder) (message : Option Filed) (index : Index) (buffers : Buffers) where
+module _ (keyed : ℕ → ℕ → List ℕ → ℕ) (f : Folder) (message : Option Filed) (index : Index) (buffers : Buffers) (unread : Bool) where
   abbrev state : DiskState → StoreState
-  state d = where_so (state_of d keyed f message) (IsCached d f index buffers)
+  state d = where_so (state_of d keyed f message) (IsCached d f index buffers) unread
 
   pub settled : (d : DiskState) → AreSettledByOwn (state d)
   settled d base before after same represented = record { bytes = represented.bytes; represented = represented_same (path_of f) represented.bytes before after same represented.represented; holds = represented.holds }
@@ -104,7 +104,7 @@ module _ (keyed : ℕ → ℕ → List ℕ → ℕ) (f : Folder) (message : Opti
   pub is_used : (paths : List ℕ → Type 0) (d e : DiskState) → (state d).is_ready → ((m : List ℕ) → IsIn (path_of f) m → paths m → ⊥) → ChangesOnly paths d e → IsUsedAt paths (state d) (state e)
   is_used paths d e ready off run = record {
     settled = settled d;
-    same = record { represented = λ base c. (λ is. is, λ is. is); own = λ m. (λ is. is, λ is. is); undoes = (λ is. is, λ is. is) };
+    same = record { represented = λ base c. (λ is. is, λ is. is); own = λ m. (λ is. is, λ is. is); undoes = (λ is. is, λ is. is); sound = λ is. is };
     holds = holds d e (wider paths (Outside (path_of f)) d e (λ m at own. off m own at) run) ready;
     changes = run;
   }

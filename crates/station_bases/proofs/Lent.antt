@@ -11,8 +11,8 @@ use Rattle.station.specs.Beneath.{AreSettledByOwn, HoldsAsBefore, IsUsedAt}
 use Rattle.station_bases.specs.{InFile.IsInFile, InFile.IsOfFile, InFile.file_state, declared.held.Held.Held}
 use Rattle.station_bases.proofs.Reach.{held_seen, reach_seen}
 
-module _ {S T : Type 0} (path own : List ℕ) (held : Held S T) (place : ℕ) where
-  pub settled : (d : DiskState) → AreSettledByOwn (file_state d path own held place)
+module _ {S T : Type 0} (path own : List ℕ) (held : Held S T) (place : ℕ) (unread : Bool) where
+  pub settled : (d : DiskState) → AreSettledByOwn (file_state d path own held place unread)
   settled d base before after same represented = subst (λ (f : Option (List ℕ)). IsBaseGiven f base.messages base.cursor) (sym (same path (inr refl))) represented
 
   -- the paths that do not belong to the file
@@ -25,14 +25,14 @@ module _ {S T : Type 0} (path own : List ℕ) (held : Held S T) (place : ℕ) wh
   in_file : (d e : DiskState) → ChangesOnly Others d e → (b : Base) → IsInFile d path b → IsInFile e path b
   in_file d e run b was = grind (arith, own_path, left_now)
 
-  holds : (d e : DiskState) → (file_state d path own held place).is_ready → ChangesOnly Others d e → HoldsAsBefore (file_state d path own held place) (file_state e path own held place)
+  holds : (d e : DiskState) → (file_state d path own held place unread).is_ready → ChangesOnly Others d e → HoldsAsBefore (file_state d path own held place unread) (file_state e path own held place unread)
   holds d e ready run = grind (arith, reach_seen, own_path, held_seen, in_file)
 
-  pub is_used : (paths : List ℕ → Type 0) (d e : DiskState) → (file_state d path own held place).is_ready → ((m : List ℕ) → IsOfFile path own m → paths m → ⊥) → ChangesOnly paths d e
-      → IsUsedAt paths (file_state d path own held place) (file_state e path own held place)
+  pub is_used : (paths : List ℕ → Type 0) (d e : DiskState) → (file_state d path own held place unread).is_ready → ((m : List ℕ) → IsOfFile path own m → paths m → ⊥) → ChangesOnly paths d e
+      → IsUsedAt paths (file_state d path own held place unread) (file_state e path own held place unread)
   is_used paths d e ready off run = record {
     settled = settled d;
-    same = record { represented = λ base c. (λ is. is, λ is. is); own = λ m. (λ is. is, λ is. is); undoes = (λ is. is, λ is. is) };
+    same = record { represented = λ base c. (λ is. is, λ is. is); own = λ m. (λ is. is, λ is. is); undoes = (λ is. is, λ is. is); sound = λ is. is };
     holds = holds d e ready (wider paths Others d e (λ m at own. off m own at) run);
     changes = run;
   }

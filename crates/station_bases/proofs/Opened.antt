@@ -1,5 +1,5 @@
 -- A base file opened as a store.
-use Rattle.std.proofs.Common.{◌≡◌, ◌≤◌, ◌⊎◌, ◌∙◌, inl, inr, ⊎_elim, ℕ, List, Option, None, Some, Result, Ok, Err, ap, arith, refl, subst, sym}
+use Rattle.std.proofs.Common.{◌≡◌, ◌≤◌, ◌⊎◌, ◌∙◌, inl, inr, ⊎_elim, ℕ, Bool, false, List, Option, None, Some, Result, Ok, Err, ap, arith, refl, subst, sym}
 use Rattle.std.specs.Prelude.{All, ◌≢◌, IfErr, IsSome}
 use Rattle.base_file.specs.Base.{Base}
 use Rattle.base_file.proofs.Loading.{base_is}
@@ -49,17 +49,17 @@ read_whole d0 d1 disk path base quiet represented = record {
 quiet_elsewhere : (path : List ℕ) (d0 d1 : DiskState) → ChangesNothing d0 d1 → KeepsElsewhere (file_place path) d0 d1
 quiet_elsewhere path d0 d1 quiet = grind arith
 
-module _ {S T : Type 0} (d0 d1 : DiskState) (path own : List ℕ) (held : Held S T) (place : ℕ) (quiet : ChangesNothing d0 d1) where
-  opened_file : IsSettled d1 path → ((b : Base) → RepresentsInFile path b d0.seen → IsHeld d1 path held b) → IsOpenFor (file_place path) d0 (file_state d1 path own held place)
+module _ {S T : Type 0} (d0 d1 : DiskState) (path own : List ℕ) (held : Held S T) (place : ℕ) (unread : Bool) (quiet : ChangesNothing d0 d1) where
+  opened_file : IsSettled d1 path → ((b : Base) → RepresentsInFile path b d0.seen → IsHeld d1 path held b) → IsOpenFor (file_place path) d0 (file_state d1 path own held place unread)
   opened_file on only = grind (arith, weaker_run)
 
-  of_file : IsOfPlace (file_place path) d0 (file_state d1 path own held place)
+  of_file : IsOfPlace (file_place path) d0 (file_state d1 path own held place unread)
   of_file = grind (arith, quiet_elsewhere)
 
-  pub is_opened : (links : List ℕ) (file : LinkFile) (before now : ℕ) → before ≤ now → All (λ b. b ≢ 47) own → IsWithinReach d1 path held → Honestly d1 (AreLinks d0 links file) → Honestly d1 (IsSettled d1 path)
+  pub is_opened : (links : List ℕ) (file : LinkFile) (before now : ℕ) → before ≤ now → unread ≡ false → All (λ b. b ≢ 47) own → IsWithinReach d1 path held → Honestly d1 (AreLinks d0 links file) → Honestly d1 (IsSettled d1 path)
       → Honestly d1 ((b : Base) → RepresentsInFile path b d0.seen → IsHeld d1 path held b)
-      → IsOpened (file_place path) (λ file. AreLinks d0 links file) d0 before now (file_state d1 path own held place) file
-  is_opened links file before now later plain reach read on only = grind (arith, opened_file, of_file)
+      → IsOpened (file_place path) (λ file. AreLinks d0 links file) d0 before now (file_state d1 path own held place unread) file
+  is_opened links file before now later looked plain reach read on only = grind (arith, opened_file, of_file)
 
 -- the same reason for the failures of a whole run
 pub file_shut_wider : (links path : List ℕ) (P F : Type 0) (d : DiskState) (fault : Fault) → (P → F) → IsFileShut links path P d fault → IsFileShut links path F d fault

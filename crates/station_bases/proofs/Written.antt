@@ -1,5 +1,5 @@
 -- A base that replaced its file.
-use Rattle.std.proofs.Common.{◌≡◌, ℕ, List, Some, subst, sym, arith}
+use Rattle.std.proofs.Common.{◌≡◌, ℕ, Bool, false, List, Some, subst, sym, arith}
 use Rattle.base_file.specs.Base.{Base}
 use Rattle.disk_io.specs.{Disk.DiskState, Disk.Files, Disk.Honestly, Runs.ChangesNothing, Runs.LeavesOnly, Runs.OneStepOn}
 use Rattle.disk_io.proofs.Moments.{weaker_run}
@@ -19,15 +19,15 @@ put_run path own bytes base d0 d1 says run = grind (arith, weaker_run, represent
 pub put_now : (path bytes : List ℕ) (base : Base) (d : DiskState) → IsBaseGiven (Some bytes) base.messages base.cursor → HasOnDisk d path bytes → IsInFile d path base
 put_now path bytes base d says on = grind (arith, represented_now)
 
-module _ {S T : Type 0} (path own : List ℕ) (held later : Held S T) (d0 d1 : DiskState) (p0 p1 : ℕ) where
+module _ {S T : Type 0} (path own : List ℕ) (held later : Held S T) (d0 d1 : DiskState) (p0 p1 : ℕ) (u0 u1 : Bool) (kept : u1 ≡ false → u0 ≡ false) where
   abbrev old : StoreState
-  old = file_state d0 path own held p0
+  old = file_state d0 path own held p0 u0
 
   abbrev new : StoreState
-  new = file_state d1 path own later p1
+  new = file_state d1 path own later p1 u1
 
   same : IsSameStore old new
-  same = record { represented = λ b c. (λ h. h, λ h. h); own = λ m. (λ h. h, λ h. h); undoes = (λ h. h, λ h. h) }
+  same = record { represented = λ b c. (λ h. h, λ h. h); own = λ m. (λ h. h, λ h. h); undoes = (λ h. h, λ h. h); sound = kept }
 
   quiet_others : ChangesNothing d0 d1 → KeepsOthers old new
   quiet_others quiet = grind arith

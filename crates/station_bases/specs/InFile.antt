@@ -1,5 +1,5 @@
 -- A base in a file.
-use Rattle.std.specs.Prelude.{◌≡◌, ◌≢◌, ◌⊎◌, ◌/◌, ℕ, false, List, All, Option, length, slice_get}
+use Rattle.std.specs.Prelude.{◌≡◌, ◌≢◌, ◌⊎◌, ◌/◌, ℕ, Bool, false, List, All, Option, length, slice_get}
 use Rattle.base_file.specs.{Base.Base, BaseFile.is_countable}
 use Rattle.disk_io.specs.Disk.{DiskState, Files, bytes_in}
 use Rattle.echo_filed.specs.Filed.{Filed}
@@ -62,14 +62,15 @@ abbrev pub HasRoomHeld : {S T : Type 0} → Held S T → Filed → Type 0
 HasRoomHeld (Apart e) m = HasRoomFor (length e.keys.items / 16) m
 HasRoomHeld (Whole base) m = HasRoomFor (length base.messages) m
 
--- A store on a base file, with changes that are not committed yet.
-abbrev pub file_state : {S T : Type 0} → DiskState → List ℕ → List ℕ → Held S T → ℕ → StoreState
-file_state disk path own held place = record {
+-- A store on a base file, with changes that are not committed yet. `unread` says that a look at it did not end well.
+abbrev pub file_state : {S T : Type 0} → DiskState → List ℕ → List ℕ → Held S T → ℕ → Bool → StoreState
+file_state disk path own held place unread = record {
   disk = disk;
   is_ready = All (λ b. b ≢ 47) own × IsWithinReach disk path held;
   keeps = λ b. IsHeld disk path held b;
   committed = λ b. IsInFile disk path b;
   at_hand = fetched_last held place;
+  is_sound = unread ≡ false;
   represented = λ b c. RepresentsInFile path b c;
   is_own = IsOfFile path own;
   undoes = Unit {0};

@@ -50,9 +50,10 @@ pub record IsOpenStation (links path : List ℕ) (strange : Bool) (first second 
   pub sound : Honestly new (IsSound strange path old.seen)
   pub same : Honestly new ((keyed : ℕ → ℕ → List ℕ → ℕ) (base : Base) → HaveRoom keyed → RepresentsBase keyed path base old.seen → HasOpened keyed new base folder)
 
--- The store is that of this folder, calls are allowed, and nothing outside has changed.
+-- The store is that of this folder, calls are allowed, no look failed, and nothing outside has changed.
 pub record IsOfFolder (keyed : ℕ → ℕ → List ℕ → ℕ) (path : List ℕ) (old : DiskState) (s : StoreState) : Type 0 where
   pub ready : s.is_ready
+  pub sound : s.is_sound
   pub own : (m : List ℕ) → s.is_own m ↔ IsIn path m
   pub represented : (base : Base) (c : Files) → s.represented base c ↔ RepresentsBase keyed path base c
   pub outside : KeepsOutside path old s.disk

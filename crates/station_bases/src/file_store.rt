@@ -8,7 +8,7 @@ ghost use Rattle.station_bases.specs.InFile.{IsHeld, IsInMemory, file_state};
 use crate::entry_adding::check_room;
 use crate::held::Held;
 use crate::saving::write_file;
-use base_store::{PurgedStore, Store, StoreError};
+use base_store::{PurgedStore, Store, StoreError, note_look};
 use disk_io::Disk;
 use echo_addr::Items;
 use echo_filed::{Filed, Key};
@@ -24,6 +24,8 @@ pub struct FileStore<'a, D: Disk, S: BuildHasher> {
     held: Held<S>,
     // The number of the current message, if all are in memory.
     place: usize,
+    // A look at the messages did not end well.
+    unread: bool,
     hasher: S,
     path: &'a str,
     own: Items<u8>,
@@ -43,12 +45,14 @@ impl<'a, D: Disk, S: BuildHasher + Copy + Drop> FileStore<'a, D, S> {
         ensures held { result.held ≡ held }
         ensures path { result.path.now ≡ path.now }
         ensures own { result.own ≡ own }
+        ensures unread { result.unread ≡ false }
     {
         FileStore {
             alloc,
             disk,
             held,
             place: 0,
+            unread: false,
             hasher,
             path,
             own,
@@ -64,14 +68,14 @@ impl<'a, D: Disk, S: BuildHasher + Copy + Drop> FileStore<'a, D, S> {
 
     // Brings all messages into memory. At an error nothing has changed.
     fn bring_in(&mut self) -> Result<(), StoreError>
-        requires { (file_state (D.state self.old.disk) self.old.path.now self.old.own self.old.held self.old.place).is_ready }
+        requires { (file_state (D.state self.old.disk) self.old.path.now self.old.own self.old.held self.old.place self.old.unread).is_ready }
         ensures held { Honestly (D.state self.new.disk) ((base : TheBase) → IsHeld (D.state self.old.disk) self.old.path.now self.old.held base → IsHeld (D.state self.new.disk) self.new.path.now self.new.held base) }
         ensures memory { OnOk result (IsInMemory self.new.held) }
         ensures same { self.new ≡ record self.old { disk = self.new.disk; held = self.new.held } }
-        ensures ready { (file_state (D.state self.new.disk) self.new.path.now self.new.own self.new.held self.new.place).is_ready }
+        ensures ready { (file_state (D.state self.new.disk) self.new.path.now self.new.own self.new.held self.new.place self.new.unread).is_ready }
         ensures quiet { ChangesNothing (D.state self.old.disk) (D.state self.new.disk) }
         ensures few { IsErrOf result StoreError.TooMany → ⊥ }
-        ensures cause { HasStoreCause (file_state (D.state self.old.disk) self.old.path.now self.old.own self.old.held self.old.place) (file_state (D.state self.new.disk) self.new.path.now self.new.own self.new.held self.new.place)
+        ensures cause { HasStoreCause (file_state (D.state self.old.disk) self.old.path.now self.old.own self.old.held self.old.place self.old.unread) (file_state (D.state self.new.disk) self.new.path.now self.new.own self.new.held self.new.place self.new.unread)
             (D.failures self.old.disk) (D.failures self.new.disk) result }
     {
         let path = self.path;
@@ -85,7 +89,7 @@ impl<'a, D: Disk, S: BuildHasher + Copy + Drop> FileStore<'a, D, S> {
 }
 
 impl<'a, D: Disk, S: BuildHasher + Copy + Drop> Store for FileStore<'a, D, S> {
-    ghost state = { λ store. file_state (D.state store.disk) store.path.now store.own store.held store.place };
+    ghost state = { λ store. file_state (D.state store.disk) store.path.now store.own store.held store.place store.unread };
 
     ghost failures = { λ store. D.failures store.disk };
 
@@ -107,7 +111,9 @@ impl<'a, D: Disk, S: BuildHasher + Copy + Drop> Store for FileStore<'a, D, S> {
         let path = self.path;
         match &mut self.held {
             Held::Apart(entries) => {
-                entries.knows(self.alloc, &mut self.disk, path.as_bytes(), key)
+                let found = entries.knows(self.alloc, &mut self.disk, path.as_bytes(), key);
+                note_look(&mut self.unread, &found);
+                found
             }
             Held::Whole(base) => Ok(base.knows(key)),
         }
@@ -117,7 +123,9 @@ impl<'a, D: Disk, S: BuildHasher + Copy + Drop> Store for FileStore<'a, D, S> {
         let path = self.path;
         match &mut self.held {
             Held::Apart(entries) => {
-                entries.has_id(self.alloc, &mut self.disk, path.as_bytes(), msgid)
+                let found = entries.has_id(self.alloc, &mut self.disk, path.as_bytes(), msgid);
+                note_look(&mut self.unread, &found);
+                found
             }
             Held::Whole(base) => Ok(base.has_id(msgid)?),
         }
@@ -127,7 +135,9 @@ impl<'a, D: Disk, S: BuildHasher + Copy + Drop> Store for FileStore<'a, D, S> {
         let path = self.path;
         match &mut self.held {
             Held::Apart(entries) => {
-                entries.fetch(self.alloc, &mut self.disk, path.as_bytes(), place)
+                let fetched = entries.fetch(self.alloc, &mut self.disk, path.as_bytes(), place);
+                note_look(&mut self.unread, &fetched);
+                fetched
             }
             Held::Whole(_) => {
                 self.place = place;

@@ -30,6 +30,7 @@ fn commit_alone<S: Store>(store: &mut S) -> Result<(), PublishError>
     ensures base { IfErr result IsOfBase }
     ensures committed { OnOk result (Commits (S.state store.old) (S.state store.new)) }
     ensures either { MayCommit (S.state store.old) (S.state store.new) }
+    ensures undamaged { OnOk result ((S.state store.old).is_sound → (S.state store.new).is_sound) }
     ensures cause { HasPublishCause S.state (S.state store.old) (S.state store.new) (S.failures store.old) (S.failures store.new) result }
 {
     store.commit()?;
@@ -53,6 +54,7 @@ fn publish_made<'a, D: Disk, P: LendStation<'a, D>>(
         → SendsFrom D.state (P.Paths.is_own paths.now) sending.entry.outbound.now sending.entry.own.now (Failed (P.Kept.failures store.old) (P.Kept.failures store.new)) (P.Kept.state before) (P.Kept.state store.new)
         base (packets_in sending.entry.source.stamp sending.entry.source.links.now base) (scan_done result)) }
     ensures keeps { KeepsStoreBut (IsTouched (P.Kept.state store.old).is_own sending.entry.outbound.now) (P.Kept.state store.old) (P.Kept.state store.new) }
+    ensures undamaged { OnOk result ((P.Kept.state store.old).is_sound → (P.Kept.state store.new).is_sound) }
     ensures cause { HasPublishCause P.Kept.state (P.Kept.state store.old) (P.Kept.state store.new) (P.Kept.failures store.old) (P.Kept.failures store.new) result }
 {
     let made = match made_of(alloc, packets) {
@@ -89,6 +91,7 @@ fn send_made<'a, D: Disk, P: LendStation<'a, D>, W: Sink>(
         → ScansFrom D.state (P.Paths.is_own paths.now) sending.entry (Failed (P.Kept.failures store.old) (P.Kept.failures store.new)) (P.Kept.state before) (P.Kept.state store.new)
         (output_of W.contents W.failures W.holds out.old) (output_of W.contents W.failures W.holds out.new) base result) }
     ensures keeps { KeepsStoreBut (IsTouched (P.Kept.state store.old).is_own sending.entry.outbound.now) (P.Kept.state store.old) (P.Kept.state store.new) }
+    ensures undamaged { OnOk result ((P.Kept.state store.old).is_sound → (P.Kept.state store.new).is_sound) }
     ensures cause { HasScanCause P.Kept.state (P.Kept.state store.old) (P.Kept.failures store.old) (P.Kept.failures store.new) result }
 {
     match print_made(alloc, packets, out) {
@@ -117,6 +120,7 @@ pub(crate) fn send_on<'a, D: Disk, P: LendStation<'a, D>, T: MessageProgress, W:
         → ScansFrom D.state (P.Paths.is_own paths.now) sending.entry (Failed (P.Kept.failures store.old.store) (P.Kept.failures store.new.store)) (P.Kept.state store.old.store) (P.Kept.state store.new.store)
         (output_of W.contents W.failures W.holds out.old) (output_of W.contents W.failures W.holds out.new) base result) }
     ensures keeps { KeepsStoreBut (IsTouched (P.Kept.state store.old.store).is_own sending.entry.outbound.now) (P.Kept.state store.old.store) (P.Kept.state store.new.store) }
+    ensures undamaged { OnOk result ((P.Kept.state store.old.store).is_sound → (P.Kept.state store.new.store).is_sound) }
     ensures cause { HasScanCause P.Kept.state (P.Kept.state store.old.store) (P.Kept.failures store.old.store) (P.Kept.failures store.new.store) result }
 {
     match pass_waiting::<D, P, T>(alloc, store, paths, sending) {

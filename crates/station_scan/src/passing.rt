@@ -102,6 +102,7 @@ fn add_group<'a, 'p, D: Disk, P: LendStation<'a, D>>(
         → OnOk result (IsMaking (P.Paths.is_own paths.now) sending.entry (sent ++ group.now.sent) (P.Kept.state store.new).disk packets.new.items) }
     ensures taken { Honestly (P.Kept.state store.new).disk (IsErrOf result PlacingError.Taken → (sent : List Sent) → IsMaking (P.Paths.is_own paths.now) sending.entry sent (P.Kept.state store.old).disk packets.old.items
         → AreTakenTo (P.Paths.is_own paths.now) sending.entry (sent ++ group.now.sent) (P.Kept.state store.old).disk.seen) }
+    ensures undamaged { OnOk result ((P.Kept.state store.old).is_sound → (P.Kept.state store.new).is_sound) }
     ensures cause { HasPlacingCause (P.Kept.failures store.old) (P.Kept.failures store.new) result }
 {
     let going = going_of(alloc, paths, sending.trial, packets, group)?;
@@ -134,6 +135,7 @@ pub(crate) fn pass_on<'a, 'p, D: Disk, P: LendStation<'a, D>, T: MessageProgress
     ensures passed { OnOk result (HasPassed (P.Paths.is_own paths.now) sending.entry (P.Kept.state store.old.store) (P.Kept.state store.new.store) packets.new.items) }
     ensures taken { Honestly (P.Kept.state store.new.store).disk (IsErrOf result (PassStop.Placing PlacingError.Taken) → (base : Base) → (P.Kept.state store.old.store).keeps base
         → IsTakenFor (P.Paths.is_own paths.now) sending.entry base (P.Kept.state store.old.store).disk.seen) }
+    ensures undamaged { OnOk result ((P.Kept.state store.old.store).is_sound → (P.Kept.state store.new.store).is_sound) }
     ensures cause { HasStopCause P.Kept.state (P.Kept.state store.old.store) (P.Kept.state store.new.store) (P.Kept.failures store.old.store) (P.Kept.failures store.new.store) result }
 {
     let links = sending.source.links;

@@ -34,6 +34,7 @@ pub(crate) fn publish<'a, D: Disk, P: LendStation<'a, D>>(
     // A crash at any time leaves no commit and no packet at its path, or the commit and each packet whole.
     ensures any_moment { MayPublish (ended_before (P.Kept.state store.old)) batch.entry.packets.now batch.entry.trial.now (P.Kept.state store.old) (P.Kept.state store.new) }
     ensures keeps { KeepsStoreBut (IsPublishedAt (P.Kept.state store.old) (IsGoingAt batch.entry.packets.now batch.entry.trial.now)) (P.Kept.state store.old) (P.Kept.state store.new) }
+    ensures undamaged { OnOk result ((P.Kept.state store.old).is_sound → (P.Kept.state store.new).is_sound) }
     ensures cause { HasPublishCause P.Kept.state (P.Kept.state store.old) (P.Kept.state store.new) (P.Kept.failures store.old) (P.Kept.failures store.new) result }
 {
     if !P::with_disk(alloc, store, &StagePackets { batch })? {
@@ -57,6 +58,7 @@ fn commit_staged<'a, D: Disk, P: LendStation<'a, D>>(
     ensures left { IfErr result (StopsCommitting packets.now (P.Kept.state store.old) (P.Kept.state store.new)) }
     ensures any_moment { MayCommitWith packets.now (P.Kept.state store.old) (P.Kept.state store.new) }
     ensures keeps { KeepsStoreBut (IsPublishedAt (P.Kept.state store.old) (IsOfOne packets.now)) (P.Kept.state store.old) (P.Kept.state store.new) }
+    ensures undamaged { OnOk result ((P.Kept.state store.old).is_sound → (P.Kept.state store.new).is_sound) }
     ensures cause { HasCommitCause P.Kept.state packets.now (P.Kept.state store.old) (P.Kept.state store.new) (P.Kept.failures store.old) (P.Kept.failures store.new) result }
 {
     store.commit()?;

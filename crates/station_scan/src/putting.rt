@@ -41,6 +41,7 @@ fn finish_earlier<'a, D: Disk, P: LendStation<'a, D>, G: ListStaged>(
     ensures ends { Honestly (P.Kept.state store.new).disk (EndsLeft (G.is_true listing.new (P.Kept.state store.old).disk.seen) (P.Paths.is_own paths.now) sending.entry.outbound.now sending.entry.own.now cursor
         (P.Kept.state store.old).disk (P.Kept.state store.new).disk result) }
     ensures taken { Honestly (P.Kept.state store.new).disk (IsErrOf result PlacingError.Taken → AreFreeLeft (P.Paths.is_own paths.now) sending.entry.outbound.now sending.entry.own.now (P.Kept.state store.old).disk.seen → ⊥) }
+    ensures undamaged { OnOk result ((P.Kept.state store.old).is_sound → (P.Kept.state store.new).is_sound) }
     ensures later { P.Kept.failures store.old ≤ P.Kept.failures store.new }
     ensures listing_later { G.failures listing.old ≤ G.failures listing.new }
     ensures failed { IsErrOf result PlacingError.Device → Failed (P.Kept.failures store.old) (P.Kept.failures store.new) ⊎ Failed (G.failures listing.old) (G.failures listing.new) }
@@ -88,6 +89,7 @@ pub(crate) fn put_moved<
         (output_of W.contents W.failures W.holds out.old) (output_of W.contents W.failures W.holds out.new) links.now base)) }
     ensures keeps { KeepsStoreBut (IsTouched (P.Kept.state store.old.store).is_own scan.old.outbound.now) (P.Kept.state store.old.store) (P.Kept.state store.new.store) }
     ensures listing_later { G.failures scan.old.listing ≤ G.failures scan.new.listing }
+    ensures undamaged { OnOk result ((P.Kept.state store.old.store).is_sound → (P.Kept.state store.new.store).is_sound) }
     ensures cause { HasScanCause P.Kept.state (P.Kept.state store.old.store) (P.Kept.failures store.old.store) (P.Kept.failures store.new.store) result }
 {
     let source = ScanSource {

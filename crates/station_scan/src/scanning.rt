@@ -3,7 +3,7 @@ ghost use Rattle.std.specs.Prelude.{◌≤◌, ◌⊎◌, ℕ, List, IsErrOf, On
 ghost use Rattle.base_file.specs.Base.{Base};
 ghost use Rattle.disk_io.specs.{Device.Failed, Disk.Honestly, Runs.ChangesNothing};
 ghost use Rattle.cmd_status.specs.Devices.{output_of};
-ghost use Rattle.station.specs.{Beneath.AreSettledByOwn, Opening.AreFree, Opening.HaveFailed, Running.NeedsBase};
+ghost use Rattle.station.specs.{Beneath.AreSettledByOwn, Opening.AreFree, Opening.HaveFailed, Running.EndsSound, Running.NeedsBase};
 ghost use Rattle.station_scan.specs.Scanning.{IsScanFull, IsScanNotRun, IsTouched, ScanTries, ScansIn, ScansOnStore, TriesOn};
 ghost use Rattle.station_scan.specs.Publishing.{UnchangedExcept, KeepsStoreBut};
 
@@ -80,6 +80,7 @@ pub fn run_scan<
         (D.state disk) (D.state result.disk) result.done) }
     ensures keeps { UnchangedExcept (IsTouched (P.place station).is_own scan.old.outbound.now) (D.state disk) (D.state result.disk) }
     ensures passed { OnOk result.done (Q.lets before.old) }
+    ensures undamaged { OnOk result.done (EndsSound P.Kept.state (D.state result.disk)) }
 {
     let paths = station.paths();
     match lock_and_open(alloc, disk, locks, station) {
@@ -138,6 +139,7 @@ fn scan_kept<'a, 's, D: Disk, P: LendStation<'a, D>, G: ListStaged, T: MessagePr
         → OnOk result (TriesOn D.state scan.old.stamp (P.Paths.is_own paths.now) scan.old.outbound.now (P.Kept.state store.old.store) (P.Kept.state store.new.store)
         (output_of W.contents W.failures W.holds out.old) (output_of W.contents W.failures W.holds out.new) links.now base)) }
     ensures keeps { KeepsStoreBut (IsTouched (P.Kept.state store.old.store).is_own scan.old.outbound.now) (P.Kept.state store.old.store) (P.Kept.state store.new.store) }
+    ensures undamaged { OnOk result ((P.Kept.state store.old.store).is_sound → (P.Kept.state store.new.store).is_sound) }
     ensures later { P.Kept.failures store.old.store ≤ P.Kept.failures store.new.store }
     ensures listing_later { G.failures scan.old.listing ≤ G.failures scan.new.listing }
     ensures device { IsErrOf result (ScanError.Command (CommandError.Store StoreError.Device)) → Failed (P.Kept.failures store.old.store) (P.Kept.failures store.new.store) }

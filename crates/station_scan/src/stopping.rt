@@ -62,6 +62,7 @@ pub(crate) fn pass_waiting<'a, 'p, D: Disk, P: LendStation<'a, D>, T: MessagePro
     ensures stopped { IfErr result (StopsPassing (P.Paths.is_own paths.now) sending.entry (P.Kept.state store.old.store) (P.Kept.state store.new.store)) }
     ensures taken { Honestly (P.Kept.state store.new.store).disk (IsErrOf result (PublishError.Packets PlacingError.Taken) → (base : Base) → (P.Kept.state store.old.store).keeps base
         → IsTakenFor (P.Paths.is_own paths.now) sending.entry base (P.Kept.state store.old.store).disk.seen) }
+    ensures undamaged { OnOk result ((P.Kept.state store.old.store).is_sound → (P.Kept.state store.new.store).is_sound) }
     ensures cause { HasPublishCause P.Kept.state (P.Kept.state store.old.store) (P.Kept.state store.new.store) (P.Kept.failures store.old.store) (P.Kept.failures store.new.store) result }
 {
     let mut packets = empty_packets(alloc, sending)?;

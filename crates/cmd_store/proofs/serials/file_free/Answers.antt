@@ -1,5 +1,5 @@
 use Rattle.std.proofs.{Common.arith, lemmas.Result.err_from_is_err_and}
-use Rattle.cmd_store.proofs.FreePostings.{filed_first, looks_known, none_looked, one_more_looked, refused_known, refused_on}
+use Rattle.cmd_store.proofs.FreePostings.{filed_first, looks_known, none_looked, one_more_looked, refused_known, refused_on, sound_known}
 use Rattle.echo_toss.proofs.Bounds.{past_looked, past_wider}
 use Rattle.cmd_store.proofs.serials.file_free.Goals as goal
 
@@ -11,7 +11,7 @@ serials-preserved g c =
     let so = c.serials.invariant in
     let known = c.is_of_serial.ensures.0 c.if-not-is_of_serial.false in
     one_more_looked c.args.links.now _ _ _ _ _ _ c.args.words.serial c.serials.serial c.serials._steps c.args.words.tag.now c.args.draft.now c.args.words.stamp so
-    (looks_known _ _ c.in-Err.stop known c.in-Err.ensures.looks) c.in-Err.ensures.cause.later
+    (looks_known _ _ c.in-Err.stop known c.in-Err.ensures.looks) c.in-Err.ensures.cause.later (sound_known _ _ _ _ c.in-Err.stop known c.in-Err.ensures.cause)
     (λ honest base kept. refused_known c.args.links.now base.messages c.args.words.tag.now c.args.draft.now c.serials.serial c.args.words.stamp c.in-Err.stop known (c.in-Err.ensures.stop honest base kept))
 
 pub returns-in-Ok-clause-filed : goal.returns-in-Ok-clause-filed

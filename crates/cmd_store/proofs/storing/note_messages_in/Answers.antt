@@ -53,6 +53,7 @@ messages-preserved g c =
       within = omega (arith, within.1);
       device = device;
       later = omega (arith, h.later, answer.cause.later);
+      sound = λ was. answer.cause.undamaged (h.sound was);
       free = noted.room;
     }
 

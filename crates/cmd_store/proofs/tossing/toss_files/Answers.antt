@@ -12,7 +12,7 @@ files-preserved g c =
     more_files g.P.PacketFiles.is_honest c.args.noting c.args.limits (device_of g.P.Reader.Read.remaining g.P.Reader.Source.failures) c.args.links.now (g.T.Store.state c.args.store.now) (g.T.Store.state c.files.store) (g.T.Store.state c.toss_next.new.store)
     _ _ _ (g.P.PacketFiles.coming c.args.packets.now) (g.P.PacketFiles.coming c.files.packets) (g.P.PacketFiles.coming c.open_next.new.self) c.args.lines.now.items c.files.lines.items c.toss_next.new.lines.items
     c.files.packets c.open_next.new.self c.in-Ok.reader c.toss_next.new.reader c.files.invariant c.open_next.ensures.honest (rw c.in-Ok.is at c.in-Some.ensures.next) (λ honest b h. rw c.in_default-stopped.is at (c.in_ok-stopped-in-Ok.ensures.tossed honest b h))
-    c.in_ok-stopped-in-Ok.ensures.goes_on c.toss_next.ensures.commits c.toss_next.ensures.cause.later
+    c.in_ok-stopped-in-Ok.ensures.goes_on c.toss_next.ensures.commits c.toss_next.ensures.cause.later c.in_ok-stopped-in-Ok.ensures.cause.undamaged
 
 pub returns-in-Some-stopped-clause-tossed : goal.returns-in-Some-stopped-clause-tossed
 returns-in-Some-stopped-clause-tossed g c = λ honest base kept.

@@ -13,6 +13,7 @@ invariant-groups g l =
     × (sent ++ sent_of l.links (drop l.at base.messages) ≡ sent_of l.links (drop l.from base.messages))))
     × LooksOn (g.T.Store.state l.fn.store) (g.T.Store.state l.store)
     × (g.T.Store.failures l.fn.store ≤ g.T.Store.failures l.store)
+    × ((g.T.Store.state l.fn.store).is_sound → (g.T.Store.state l.store).is_sound)
 
 abbrev pub decreases-groups : goal.decreases-groups
 decreases-groups g l = l.end - l.at

@@ -12,6 +12,7 @@ group-init g c = (
       next_waits is_sent (outgoing_of c.args.links.now) base.messages c.args.from found.0 _ _ _ (sym found.1) (ap (λ (l : List OutgoingMessage). l ++ rest) c.new-sent.ensures.items) found.2,
   c.push_message.ensures.looks,
   c.push_message.ensures.cause.later,
+  c.in_ok-push_message.ensures.cause.undamaged,
   omega arith,
   omega (arith, c.requires.some),
 )
@@ -25,7 +26,8 @@ group-preserved g c =
           next_waits is_sent (outgoing_of c.args.links.now) base.messages c.group.at found.0 _ _ _ (sym found.1) was found.2,
       looks_twice _ _ _ so.1 c.push_message-in-group.ensures.looks,
       omega (arith, so.2, c.push_message-in-group.ensures.cause.later),
-      omega (arith, so.3),
+      λ sound. c.in_ok-push_message-2.ensures.cause.undamaged (so.3 sound),
+      omega (arith, so.4),
       omega (arith, c.group-test.true),
     )
 

@@ -11,6 +11,7 @@ invariant-group g l =
     → l.sent.items ++ sent_of l.links (drop l.at base.messages) ≡ sent_of l.links (drop l.from base.messages))
     × LooksOn (g.T.Store.state l.fn.store) (g.T.Store.state l.store)
     × (g.T.Store.failures l.fn.store ≤ g.T.Store.failures l.store)
+    × ((g.T.Store.state l.fn.store).is_sound → (g.T.Store.state l.store).is_sound)
     × (l.from < l.at)
     × (l.at ≤ l.end)
 

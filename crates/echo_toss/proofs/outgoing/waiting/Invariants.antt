@@ -12,6 +12,7 @@ invariant-waiting g l =
     × (l.all.items ++ sent_of l.links (drop l.at base.messages) ≡ sent_of l.links (drop base.cursor base.messages)))
     × LooksOn (g.T.Store.state l.fn.store) (g.T.Store.state l.store)
     × (g.T.Store.failures l.fn.store ≤ g.T.Store.failures l.store)
+    × ((g.T.Store.state l.fn.store).is_sound → (g.T.Store.state l.store).is_sound)
 
 abbrev pub decreases-waiting : goal.decreases-waiting
 decreases-waiting g l = l.count - l.at

@@ -55,6 +55,7 @@ messages-preserved g c =
       within = omega (arith, within.1);
       device = device;
       later = omega (arith, h.later, answer.cause.later);
+      sound = λ was. answer.cause.undamaged (h.sound was);
     }
 
 pub returns-in_err-message-clause-read : goal.returns-in_err-message-clause-read

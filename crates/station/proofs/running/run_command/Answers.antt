@@ -1,5 +1,5 @@
 use Rattle.std.proofs.Common.{◌≡◌, ◌≤◌, ap, arith, inl, inr, refl}
-use Rattle.station.proofs.Ran.{elsewhere_after, looks_of, looks_open, needs_held, past_of, refused_run, run_on, stopped_on}
+use Rattle.station.proofs.Ran.{elsewhere_after, ends_sound, looks_of, looks_open, needs_held, past_of, refused_run, run_on, stopped_on}
 use Rattle.station.proofs.Failures.{failed_wider}
 use Rattle.cmd_store.specs.Stops.{store_answer}
 use Rattle.station.proofs.running.run_command.Goals as goal
@@ -118,3 +118,8 @@ returns-clause-needs g c = λ honest.
       refused = λ none. record { fault = c.in-Err.stopped.fault; is = refl; cause = shut.cause honest; printed = refl; crash = shut.crash honest };
       untouched = c.in-Err.ensures.untouched honest;
     }
+
+pub returns-in-Ok-prepare-clause-undamaged : goal.returns-in-Ok-prepare-clause-undamaged
+returns-in-Ok-prepare-clause-undamaged g c =
+    ends_sound g.P.Kept.Store.state c.run-done.new.store (g.P.Kept.Store.state c.in-Ok.opened.kept) (g.P.Kept.Store.state c.prepare.new.store) (g.D.Disk.state c.into_disk-disk.result) c.run-done.result
+    c.in-Ok.ensures.opened.sound c.in-Ok-prepare.ensures.undamaged c.run-done.ensures.cause.undamaged c.into_disk-disk.ensures.quiet

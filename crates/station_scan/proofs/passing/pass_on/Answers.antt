@@ -30,6 +30,7 @@ groups-preserved g c =
     record {
       passing = subst (λ (n : ℕ). IsPassing Own to s0 e now n) (sym c.next-at.ensures) (passing_next Own to s0 c.requires.ready s c.groups.packets.items c.groups.at inv.passing r read.looks group from e now (add.stages inv.passing.sent making) more);
       count = λ honest base kept. c.len-end-in-groups.ensures.count honest base kept;
+      sound = λ was. c.in_ok-add_group.ensures.undamaged (c.in_ok-group.ensures.cause.undamaged (inv.sound was));
       later = omega (arith, inv.later, read.cause.later, add.cause.later);
     }
 

@@ -9,6 +9,7 @@ abbrev pub invariant-groups : goal.invariant-groups
 invariant-groups g l = record {
   passing : IsPassing (g.P.Paths.OwnPaths.is_own l.paths) l.sending (g.P.Kept.Store.state l.fn.store.store) (g.P.Kept.Store.state l.store.store) l.packets.items l.at;
   count : Honestly (g.P.Kept.Store.state l.store.store).disk ((base : Base) → (g.P.Kept.Store.state l.store.store).keeps base → l.end ≡ length base.messages);
+  sound : (g.P.Kept.Store.state l.fn.store.store).is_sound → (g.P.Kept.Store.state l.store.store).is_sound;
   later : g.P.Kept.Store.failures l.fn.store.store ≤ g.P.Kept.Store.failures l.store.store;
 }
 

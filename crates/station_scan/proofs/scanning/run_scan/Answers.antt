@@ -1,4 +1,5 @@
 use Rattle.std.proofs.Common.{◌≡◌, ◌≤◌, ◌⊎◌, Err, arith, inl, inr, refl}
+use Rattle.std.proofs.lemmas.Result.{on_ok_weaker}
 use Rattle.disk_io.specs.Device.{Failed}
 use Rattle.station.proofs.{Failures.failed_wider, Ran.looks_of, Ran.looks_open, Ran.needs_held, Ran.stopped_on}
 use Rattle.cmd_store.specs.declared.command_error.CommandError.TheVariants.{Met}
@@ -141,3 +142,9 @@ returns-clause-needs g c = λ honest.
       };
       untouched = c.in-Err.ensures.untouched honest;
     }
+
+pub returns-in-Ok-prepare-clause-undamaged : goal.returns-in-Ok-prepare-clause-undamaged
+returns-in-Ok-prepare-clause-undamaged g c =
+    on_ok_weaker c.scan_kept-done.result
+    (λ kept. record { kept = c.scan_kept-done.new.store.store; sound = kept (c.in-Ok-prepare.ensures.undamaged c.in-Ok.ensures.opened.sound); quiet = c.into_disk-disk.ensures.quiet })
+    c.scan_kept-done.ensures.undamaged

@@ -1,11 +1,11 @@
-use Rattle.std.proofs.Common.{◌≡◌, ◌<◌, ◌≤◌, ◌+◌, ◌/◌, ℕ, List, nat_lt, not, ◌&&◌, length, get_or, refl, sym, ap, subst, ◌∙◌, arith}
+use Rattle.std.proofs.Common.{◌≡◌, ◌<◌, ◌≤◌, ◌+◌, ◌/◌, ℕ, List, nat_lt, not, ◌&&◌, length, get_or, refl, sym, ap, subst, ◌∙◌, arith, below_more, lt-ltb}
 use Rattle.disk_io.specs.Disk.{DiskState}
 use Rattle.echo_filed.specs.{Filed.Filed, Stored.Stored, Stored.message_in, Stored.stored_bytes, declared.stored.Version.TheVariants.Second, Stubs.is_stub}
-use Rattle.base_log.specs.Standing.{BaseBytes}
+use Rattle.base_log.specs.{Standing.BaseBytes, declared.log.End.End}
 use Rattle.base_log.proofs.Quiet.{base_quiet}
 use Rattle.base_file.specs.{Alone.IsStoredAlone, Base.Base}
 use Rattle.base_store.specs.Keys.{HasBytesOf, AreWhereRecorded, digest_at}
-use Rattle.base_folder_store.specs.{Answers.IsStoredOf, Calls.StagesOnly, Held.HoldsBase, Left.HoldsLeft, Left.IsLeftOf, Left.IsPurgedTo, Left.left_if}
+use Rattle.base_folder_store.specs.{Answers.IsStoredOf, Calls.StagesOnly, Held.HoldsBase, Left.HoldsLeft, Left.IsLeftOf, Left.AreLegible, Left.IsLegibleAt, Left.IsPurgedTo, Left.left_if, Vouched.AreBytesAt}
 use Rattle.base_folder_store.specs.{Opened.committed_by, Opened.held_by, Opened.path_of, declared.folder.Folder.Folder, declared.leaving.PurgedBytes.PurgedBytes, declared.reading.StoredBytes.StoredBytes}
 use Rattle.base_folder_store.proofs.Beside.{committed_others, many_readable, readable_others, readable_held, readable_quiet, recorded_readable}
 use Rattle.base_folder_store.proofs.{Bases.open_quiet, Bases.recorded_where, Causes.handed_on, Causes.purge_cause, Fits.room_left, Fits.shorter_more}
@@ -146,6 +146,10 @@ returns-in_err-stage_left-clause-cause g c =
 pub returns-clause-same : goal.returns-clause-same
 returns-clause-same g c honest = grind (arith, base_quiet)
 
+legible_more : (held : BaseBytes) (place : ℕ) (bytes : List ℕ) → AreLegible held place → AreBytesAt held.messages held.keys place bytes → (place < held.cursor → (m : Filed) × IsStoredAlone m bytes) → AreLegible held (place + 1)
+legible_more held place bytes before at one =
+    below_more (λ i. i < held.cursor → IsLegibleAt held i) place before (λ below. let m = one below in record { bytes = bytes; at = at; message = m.0; stored = m.1 })
+
 scanned_below : (d : DiskState) (f : Folder) (place : ℕ) (keyed : ℕ → ℕ → List ℕ → ℕ) (base : Base) → HoldsBase keyed (committed_by d f) base → IsBelow (nat_lt place f.end.recorded.cursor) place base.cursor
 scanned_below d f place keyed base holds = subst (λ (n : ℕ). IsBelow (nat_lt place f.end.recorded.cursor) place n) holds.cursor (is_below place f.end.recorded.cursor)
 
@@ -209,4 +213,14 @@ returns-clause-purged g c =
                 ((c.in_ok-stored.ensures.at h1).digest ∙ ap (λ (b : BaseBytes). digest_at b.keys place) (readable_held d0 f (was.readable h0))) more.staged more.fits;
             shorter = λ within. shorter_more base.messages (committed_by d0 f) (held_by d1 n) (held_by d2 c.stage_left.new.self) place c.in_ok-stored.stored.digest bytes at.represented recorded at.has (was_held.shorter m.within) at.shorter more.staged within;
           });
+      read = λ honest.
+          let h1 = staged.run.outside.honest honest in
+          let h0 = quiet.honest h1 in
+          let same = c.in_ok-stage_left.ensures.same honest ∙ base_quiet d0 d1 (path_of n) n.end.recorded quiet in
+          let to : held_by d0 f ≡ committed_by d0 n = readable_held d0 f (was.readable h0) ∙ sym (committed_others d0 f n was.others) in
+          let bytes = c.in_ok-stored.stored.bytes.items in
+          let at = subst (λ (b : BaseBytes). AreBytesAt b.messages b.keys place bytes) to (c.in_ok-stored.ensures.at h1).bytes in
+          subst (λ (b : BaseBytes). AreLegible b (place + 1)) (sym same)
+          (legible_more (committed_by d0 n) place bytes (c.requires.purged.read h0) at
+          (λ below. c.in_ok-left.ensures.read (lt-ltb place f.end.recorded.cursor (subst (λ (t : End). place < t.recorded.cursor) was.others.end below))));
     }

@@ -1,8 +1,8 @@
-use Rattle.std.proofs.Common.{◌≡◌, ◌≤◌, ℕ, List, [], length, refl, sym, ap, subst, ◌∙◌, arith}
+use Rattle.std.proofs.Common.{◌≡◌, ◌≤◌, ◌/◌, ℕ, List, [], length, refl, sym, ap, subst, ◌∙◌, arith}
 use Rattle.disk_io.specs.Disk.{Honestly}
 use Rattle.base_log.specs.{Standing.BaseBytes, declared.log.CommitRecord.CommitRecord, declared.log.End.End}
-use Rattle.base_folder_store.specs.{Calls.CommitsOnly, Held.HoldsBase, Left.first_left, Opened.committed_by, Opened.held_by, Opened.path_of, declared.folder.Folder.Folder}
-use Rattle.base_folder_store.proofs.{Beside.cursor_open, Beside.many_readable, Beside.rest_readable, Causes.handed_on, Causes.on_ok_none, Runs.run_from_commit}
+use Rattle.base_folder_store.specs.{Calls.CommitsOnly, Held.HoldsBase, Left.AreLegible, Left.first_left, Opened.committed_by, Opened.held_by, Opened.path_of, declared.folder.Folder.Folder}
+use Rattle.base_folder_store.proofs.{Beside.cursor_open, Beside.many_readable, Beside.readable_held, Beside.rest_readable, Causes.handed_on, Causes.on_ok_none, Legible.keys_all, Runs.run_from_commit}
 use Rattle.base_folder_store.proofs.{Stubbed.changed_whole, Stubbed.left_none, Stubbed.left_whole, folder.Folder.purge.Goals.After-leave_all}
 use Rattle.base_store.proofs.Causes.{failed_since}
 use Rattle.base_folder_store.proofs.folder.Folder.purge.Given as given
@@ -26,6 +26,7 @@ leave_all-requires g c =
             (made.empty ∙ ap (λ (end : End). record { messages = []; keys = []; cursor = 0; mark = end.recorded.mark }) (sym made.paired.others.end));
         shorter = λ within. let none = ap (λ (b : BaseBytes). length b.messages) made.empty in omega (arith, none);
       };
+      read = λ honest i none below. let not : ⊥ = omega (arith, none) in absurd not;
     }
 
 record Left (g : given.Over) (c : After-leave_all g) : Type 0 where
@@ -138,3 +139,16 @@ pub returns-clause-count : goal.returns-clause-count
 returns-clause-count g c honest =
     let same = (left g (goal.at.returns-clause-count g c).After-leave_all).same honest in
     λ keyed base holds. c.in_ok-changed.ensures.changed honest keyed base (subst (λ (b : BaseBytes). HoldsBase keyed b base) (sym same) holds) ∙ changed_whole base
+
+pub returns-clause-read : goal.returns-clause-read
+returns-clause-read g c honest =
+    let h1 = c.anew.ensures.run.outside.honest (c.leave_all.ensures.run.outside.honest honest) in
+    let f1 = c.commit.new.self in
+    let d1 = g.D.Disk.state c.commit.new.disk in
+    let was = held_by (g.D.Disk.state c.args.disk.now) c.args.self.now in
+    let made = (left g (goal.at.returns-clause-read g c).After-leave_all).same honest in
+    let readable = rest_readable d1 f1 (c.in_ok-commit.ensures.stays.opened h1) c.in_ok-commit.ensures.done.recorded c.in_ok-commit.ensures.done.written in
+    let keys : length (held_by d1 f1).keys ≡ length was.keys = ap (λ (b : BaseBytes). length b.keys) (readable_held d1 f1 readable ∙ c.in_ok-commit.ensures.done.committed h1) in
+    let many : f1.keys / 16 ≡ length was.keys / 16 = ap (λ n. n / 16) (sym (keys_all d1 f1 readable.legible) ∙ keys) in
+    subst (λ n. AreLegible was n) many
+    (subst (λ (b : BaseBytes). AreLegible b (f1.keys / 16)) (c.in_ok-changed.ensures.same honest ∙ made) (c.in_ok-changed.ensures.purged.read honest))

@@ -1,7 +1,7 @@
 use Rattle.std.proofs.{Common.◌≡◌, Common.inr, Common.sym, Common.subst, lemmas.Result.on_ok_weaker}
 use Rattle.base_log.specs.Standing.{BaseBytes}
 use Rattle.base_folder_store.specs.{Held.HoldsBase, Opened.committed_by, Opened.held_by, State.IsCached, State.IsUsable, State.state_of}
-use Rattle.base_folder_store.proofs.{Causes.at_error, Stated.may_commit, Stated.usable_after, WhereSo.may_commit_where}
+use Rattle.base_folder_store.proofs.{Causes.at_error, Causes.on_ok_from, Stated.may_commit, Stated.usable_after, WhereSo.may_commit_where}
 use Rattle.base_folder_store.proofs.folder_store.FolderStorePurgedStore.purge.Goals as goal
 
 pub returns-clause-count : goal.returns-clause-count
@@ -34,7 +34,7 @@ returns-clause-either g c =
     let e = g.D.Disk.state c.purge.new.disk in
     let keyed = g.H.Digest.keyed in
     let now = c.purge.new.self in
-    may_commit_where (state_of d keyed s.folder s.message) (state_of e keyed now s.message) (IsCached d s.folder s.index s.buffers) (IsCached e now c.new-index.result c.new-buffers.result)
+    may_commit_where (state_of d keyed s.folder s.message) (state_of e keyed now s.message) (IsCached d s.folder s.index s.buffers) (IsCached e now c.new-index.result c.new-buffers.result) s.unread
     (may_commit d e keyed s.folder now s.message s.message c.purge.ensures.stays.path c.purge.ensures.run)
 
 pub returns-clause-cause : goal.returns-clause-cause
@@ -42,4 +42,5 @@ returns-clause-cause g c = record {
   later = c.purge.ensures.cause.later;
   failed = c.purge.ensures.cause.failed;
   damaged = λ honest is base holds. c.purge.ensures.cause.damaged honest is g.H.Digest.keyed base holds;
+  undamaged = on_ok_from c.purge.result (λ was. was);
 }

@@ -10,7 +10,7 @@ returns-clause-committed g c =
     let keyed = g.H.Digest.keyed in
     let now = c.commit.new.self in
     let says = c.commit.ensures in
-    commits_where (state_of d keyed s.folder s.message) (state_of e keyed now s.message) (IsCached d s.folder s.index s.buffers) (IsCached e now s.index s.buffers) c.commit.result
+    commits_where (state_of d keyed s.folder s.message) (state_of e keyed now s.message) (IsCached d s.folder s.index s.buffers) (IsCached e now s.index s.buffers) s.unread c.commit.result
     (committed d e keyed s.folder now s.message s.message c.commit.result says.stays says.done says.run.outside)
     (cached_same d e s.folder now s.index s.buffers c.commit.result says.done.same says.run.outside.honest c.requires.1)
 
@@ -21,7 +21,7 @@ returns-clause-either g c =
     let e = g.D.Disk.state c.commit.new.disk in
     let keyed = g.H.Digest.keyed in
     let now = c.commit.new.self in
-    may_commit_where (state_of d keyed s.folder s.message) (state_of e keyed now s.message) (IsCached d s.folder s.index s.buffers) (IsCached e now s.index s.buffers)
+    may_commit_where (state_of d keyed s.folder s.message) (state_of e keyed now s.message) (IsCached d s.folder s.index s.buffers) (IsCached e now s.index s.buffers) s.unread
     (may_commit d e keyed s.folder now s.message s.message c.commit.ensures.stays.path c.commit.ensures.run)
 
 pub returns-clause-refused : goal.returns-clause-refused
@@ -31,5 +31,5 @@ returns-clause-refused g c is =
     let e = g.D.Disk.state c.commit.new.disk in
     let keyed = g.H.Digest.keyed in
     let now = c.commit.new.self in
-    nothing_where (state_of d keyed s.folder s.message) (state_of e keyed now s.message) (IsCached d s.folder s.index s.buffers) (IsCached e now s.index s.buffers)
+    nothing_where (state_of d keyed s.folder s.message) (state_of e keyed now s.message) (IsCached d s.folder s.index s.buffers) (IsCached e now s.index s.buffers) s.unread
     (stages d e keyed s.folder now s.message s.message c.commit.ensures.stays.path (record { any_moment = λ honest. c.commit.ensures.refused honest is; outside = c.commit.ensures.run.outside }))

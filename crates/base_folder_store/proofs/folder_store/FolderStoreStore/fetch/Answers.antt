@@ -1,4 +1,4 @@
-use Rattle.std.proofs.Common.{◌≡◌, inl, Some, sym, arith}
+use Rattle.std.proofs.Common.{◌≡◌, inl, Some, sym, true, arith}
 use Rattle.std.proofs.lemmas.Result.{err_from_is_err_and}
 use Rattle.std.specs.Prelude.{slice_get}
 use Rattle.base_file.specs.Base.{Base}
@@ -18,8 +18,8 @@ returns-in_err-message-clause-cause g c =
     let keyed = g.H.Digest.keyed in
     let p = err_from_is_err_and c.from_residual.result c.from_residual.ensures.1 in
     rw (p.1, p.2)
-    (handed_cause (where_so (state_of d keyed s.folder s.message) (IsCached d s.folder s.index s.buffers))
-    (where_so (state_of (g.D.Disk.state c.read.new.disk) keyed s.folder c.take-gone.new.self) (IsCached (g.D.Disk.state c.read.new.disk) s.folder s.index c.read.new.buffers)) (λ (base : Base) (m : Filed). slice_get base.messages c.args.place ≡ Some m) (g.D.Disk.failures s.disk) (g.D.Disk.failures c.read.new.disk) c.in_err-message.field-0.0
+    (handed_cause (where_so (state_of d keyed s.folder s.message) (IsCached d s.folder s.index s.buffers) s.unread)
+    (where_so (state_of (g.D.Disk.state c.read.new.disk) keyed s.folder c.take-gone.new.self) (IsCached (g.D.Disk.state c.read.new.disk) s.folder s.index c.read.new.buffers) true) (λ (base : Base) (m : Filed). slice_get base.messages c.args.place ≡ Some m) (g.D.Disk.failures s.disk) (g.D.Disk.failures c.read.new.disk) c.in_err-message.field-0.0
     c.in_err-message.ensures.cause (λ honest base holds.
     let was = c.in_err-message.ensures.quiet.honest honest in
     c.in_err-message.ensures.read honest base.messages (recorded_where keyed (held_by d s.folder) base holds) (c.requires.within was base holds)))
@@ -41,12 +41,12 @@ returns-clause-looks g c =
     let d = g.D.Disk.state s.disk in
     let e = g.D.Disk.state c.read.new.disk in
     let keyed = g.H.Digest.keyed in
-    looks_where (state_of d keyed s.folder s.message) (state_of e keyed s.folder (Some c.in_ok-message.message)) (IsCached d s.folder s.index s.buffers) (IsCached e s.folder s.index c.read.new.buffers)
+    looks_where (state_of d keyed s.folder s.message) (state_of e keyed s.folder (Some c.in_ok-message.message)) (IsCached d s.folder s.index s.buffers) (IsCached e s.folder s.index c.read.new.buffers) s.unread s.unread
     (looks d e keyed s.folder s.message (Some c.in_ok-message.message) c.requires.ready.0 c.read.ensures.quiet) (λ honest.
     let same = held_quiet d e s.folder c.read.ensures.quiet in (
       indexed_held d e s.folder s.folder s.index same (c.requires.ready.1 (c.read.ensures.quiet.honest honest)).0,
       parts_held d e s.folder s.folder c.read.new.buffers same (c.read.ensures.parts honest),
-    ))
+    )) (λ is. is)
 
 pub read-requires-clause-legible : goal.read-requires-clause-legible
 read-requires-clause-legible g c honest = legible_open (g.D.Disk.state c.args.self.now.disk) c.args.self.now.folder (c.requires.ready.0.opened honest)

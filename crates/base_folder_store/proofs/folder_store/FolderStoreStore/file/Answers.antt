@@ -9,13 +9,13 @@ use Rattle.base_folder_store.proofs.folder_store.FolderStoreStore.file.Goals as 
 pub returns-in_err-bytes-clause-commits : goal.returns-in_err-bytes-clause-commits
 returns-in_err-bytes-clause-commits g c =
     let s = c.args.self.now in
-    let old = where_so (state_of (g.D.Disk.state s.disk) g.H.Digest.keyed s.folder s.message) (IsCached (g.D.Disk.state s.disk) s.folder s.index s.buffers) in
+    let old = where_so (state_of (g.D.Disk.state s.disk) g.H.Digest.keyed s.folder s.message) (IsCached (g.D.Disk.state s.disk) s.folder s.index s.buffers) s.unread in
     looks_commit old old c.requires.ready (no_look old c.requires.ready)
 
 pub returns-in_err-digest-clause-commits : goal.returns-in_err-digest-clause-commits
 returns-in_err-digest-clause-commits g c =
     let s = c.args.self.now in
-    let old = where_so (state_of (g.D.Disk.state s.disk) g.H.Digest.keyed s.folder s.message) (IsCached (g.D.Disk.state s.disk) s.folder s.index s.buffers) in
+    let old = where_so (state_of (g.D.Disk.state s.disk) g.H.Digest.keyed s.folder s.message) (IsCached (g.D.Disk.state s.disk) s.folder s.index s.buffers) s.unread in
     looks_commit old old c.requires.ready (no_look old c.requires.ready)
 
 pub returns-clause-filed : goal.returns-clause-filed
@@ -36,7 +36,7 @@ returns-clause-goes_on g c =
     let keyed = g.H.Digest.keyed in
     let now = c.stage.new.self in
     let says = c.stage.ensures in
-    goes_on_where (state_of d keyed s.folder s.message) (state_of e keyed now s.message) (IsCached d s.folder s.index s.buffers) (IsCached e now s.index s.buffers) c.stage.result
+    goes_on_where (state_of d keyed s.folder s.message) (state_of e keyed now s.message) (IsCached d s.folder s.index s.buffers) (IsCached e now s.index s.buffers) s.unread c.stage.result
     (went_on d e keyed s.folder now s.message s.message c.stage.result says.stays says.same says.run.outside)
     (cached_more d e s.folder now s.index s.buffers c.stage.result c.deref.result.now c.in_ok-digest.digest says.staged says.run.outside.honest c.requires.ready.1)
 
@@ -50,7 +50,7 @@ returns-clause-commits g c =
     let e = g.D.Disk.state c.stage.new.disk in
     let keyed = g.H.Digest.keyed in
     let now = c.stage.new.self in
-    nothing_where (state_of d keyed s.folder s.message) (state_of e keyed now s.message) (IsCached d s.folder s.index s.buffers) (IsCached e now s.index s.buffers)
+    nothing_where (state_of d keyed s.folder s.message) (state_of e keyed now s.message) (IsCached d s.folder s.index s.buffers) (IsCached e now s.index s.buffers) s.unread
     (stages d e keyed s.folder now s.message s.message c.stage.ensures.stays.path c.stage.ensures.run)
 
 pub returns-in_err-bytes-clause-many : goal.returns-in_err-bytes-clause-many

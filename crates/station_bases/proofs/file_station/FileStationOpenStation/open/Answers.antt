@@ -16,9 +16,9 @@ returns-in-Ok-clause-opened g c =
     let f0 = g.D.Disk.failures c.args.disk in
     let d1 = g.D.Disk.state c.read_station.new.disk in
     let f1 = g.D.Disk.failures c.read_station.new.disk in
-    subst (λ d. IsOpened (file_place path) (λ f. AreLinks d0 links f) d0 f0 (g.D.Disk.failures d) (file_state (g.D.Disk.state d) s.path.now s.own s.held s.place) file) (sym c.new.ensures.disk)
-    (subst (λ (p : List ℕ). IsOpened (file_place path) (λ f. AreLinks d0 links f) d0 f0 f1 (file_state d1 p s.own s.held s.place) file) (sym c.new.ensures.path)
-    (is_opened d0 d1 path s.own s.held s.place c.read_station.ensures.reads.quiet links file f0 f1 c.read_station.ensures.reads.later
+    subst (λ d. IsOpened (file_place path) (λ f. AreLinks d0 links f) d0 f0 (g.D.Disk.failures d) (file_state (g.D.Disk.state d) s.path.now s.own s.held s.place s.unread) file) (sym c.new.ensures.disk)
+    (subst (λ (p : List ℕ). IsOpened (file_place path) (λ f. AreLinks d0 links f) d0 f0 f1 (file_state d1 p s.own s.held s.place s.unread) file) (sym c.new.ensures.path)
+    (is_opened d0 d1 path s.own s.held s.place s.unread c.read_station.ensures.reads.quiet links file f0 f1 c.read_station.ensures.reads.later c.new.ensures.unread
     (subst (λ (o : List ℕ). All (λ b. b ≢ 47) o) (sym c.new.ensures.own) read.plain)
     (subst (λ h. IsWithinReach d1 path h) (sym c.new.ensures.held) read.reach) (λ honest. (read.read honest).0) read.settled
     (λ honest b represented. subst (λ h. IsHeld d1 path h b) (sym c.new.ensures.held) (read_only d0.seen d1 path c.in-Ok.read.held (read.read honest).1 b represented))))

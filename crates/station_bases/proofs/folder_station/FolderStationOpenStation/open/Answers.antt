@@ -11,7 +11,7 @@ returns-in-Ok-clause-opened g c =
     let begun = c.in-Ok.begun in
     let store = begun.store in
     let disk = g.D.Disk.state store.disk in
-    let s = where_so (state_of disk g.H.Digest.keyed store.folder store.message) (IsCached disk store.folder store.index store.buffers) in
+    let s = where_so (state_of disk g.H.Digest.keyed store.folder store.message) (IsCached disk store.folder store.index store.buffers) store.unread in
     is_opened g.H.Digest.keyed at.path.now (g.D.Disk.state c.args.disk) s at.links.now c.args.self.found.strange begun.links _ _
     c.in-Ok.ensures.of_folder.0.ready c.in-Ok.ensures.begun c.in-Ok.ensures.of_folder.0 c.in-Ok.ensures.later
 

@@ -3,4 +3,4 @@ use Rattle.station_bases.proofs.lending.FileStationLendStation.paths.Goals as go
 
 pub returns-clause-settled : goal.returns-clause-settled
 returns-clause-settled g c = λ kept.
-    settled kept.path.now kept.own kept.held kept.place (g.D.Disk.state kept.disk)
+    settled kept.path.now kept.own kept.held kept.place kept.unread (g.D.Disk.state kept.disk)
