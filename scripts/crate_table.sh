@@ -17,10 +17,11 @@ stations   | station_scan | a scan with its packets
            | station_bases | two kinds of base
            | station | lock, open, run one command
 commands   | cmd_store | those that change a base, on any store
-           | cmd_check | those that judge a net, or try one out
+           | cmd_check cmd_why | those that judge a net, or try one out
+           | cmd_suppose | nets with systems that sent no file, or without some
            | cmd_show cmd_numbered cmd_repair | those that print, export or repair
            | cmd_print echo_export | lines, forms
-verdicts   | echo_net model_replay model_plan model_why | check, replay and why, as functions
+verdicts   | echo_net model_replay model_plan | check, replay and plans of runs, as functions
 tosser     | echo_toss | the steps of one system, on any store
 model      | model_run | runs of systems, tidy areas, any tossers, harm, the headline
            | model_graph | cycles and walks

@@ -4,7 +4,8 @@ use Rattle.std.proofs.lemmas.List.{length-take-le, take_more}
 use Rattle.std.specs.List.{flat_map}
 use Rattle.echo_addr.specs.declared.address.Address.{Address}
 use Rattle.echo_links.specs.Links.{LinkFile}
-use Rattle.echo_net.specs.{declared.drawing.Drawing.Drawing, declared.verdict.Verdict.Verdict, Drawn.IsDrawing, Parts.AreCutOff}
+use Rattle.echo_net.specs.Parts.{AreCutOff}
+use Rattle.echo_net.specs.{declared.drawing.Drawing.Drawing, declared.verdict.Verdict.Verdict, Drawn.IsDrawing}
 use Rattle.cmd_status.specs.declared.status.Status.{Status, TheVariants.Good}
 use Rattle.cmd_status.proofs.Lines.{alone}
 use Rattle.cmd_print.specs.Pushed.{Pushes}

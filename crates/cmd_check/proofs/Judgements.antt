@@ -9,9 +9,10 @@ use Rattle.model_run.specs.{Tidy.Tidy, AnyState.NewMessagesAreInOrder}
 use Rattle.cmd_status.specs.{Devices.Output, declared.fault.Fault.Fault, declared.status.Status.Status, declared.status.Status.TheVariants.Good, Ended.Answers, Ended.IsOutOfMemory, Inputs.AreLinkFiles, Inputs.IsFirstFaultGiven, Inputs.IsLinkFault, Inputs.IsNodelistGiven}
 use Rattle.cmd_status.proofs.Lines.{alone}
 use Rattle.cmd_print.specs.Pushed.{Pushes}
-use Rattle.cmd_check.specs.{Assuming.assumed_line, CheckingAll.IsAreaChecked, CheckingAll.verdicts_status, Leaving.first_unknown, Leaving.texts_left}
-use Rattle.cmd_check.specs.JudgedAreas.{AreAreasJudged, AreCutWithout, AreNetLines, AreTailLines, CutsShown, IsAreaJudged, IsVerdictLeft, JudgedNet, alone_line, cut_line, is_alone, judged_areas_line, supposed_here, tail_lines, unseen_line, without_line}
-use Rattle.cmd_check.specs.SupposedFiles.{AreSupposed, AreUnseen, IsSupposedFile, ReadsSupposed}
+use Rattle.cmd_check.specs.CheckingAll.{IsAreaChecked, verdicts_status}
+use Rattle.cmd_suppose.specs.{Assuming.assumed_line, Leaving.first_unknown, Leaving.texts_left}
+use Rattle.cmd_check.specs.JudgedAreas.{AreAreasJudged, AreCutWithout, AreNetLines, AreTailLines, CutsShown, IsAreaJudged, IsVerdictLeft, JudgedNet, alone_line, cut_line, is_alone, judged_areas_line, tail_lines, without_line}
+use Rattle.cmd_suppose.specs.SupposedFiles.{AreSupposed, AreUnseen, IsSupposedFile, ReadsSupposed, supposed_here, unseen_line}
 use Rattle.cmd_check.specs.Supposing.{AreJudgedTags, EndsOrUnknown, IsFirstUnknown, IsJudged, IsJudgingFault, IsKnownFault, IsKnownJudged, IsLeftShown, IsNetShown, IsPromisedSupposing, IsSupposingShown, IsWhole, IsWrittenFault, SupposingAnswers, ended_as}
 use Rattle.cmd_check.specs.declared.supposing.Judged.{Judged, TheVariants.Ended, TheVariants.Unknown}
 use Rattle.cmd_check.proofs.Checks.{one_reading}

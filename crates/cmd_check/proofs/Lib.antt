@@ -3,13 +3,5 @@ pub mod AreaTags
 pub mod Checks
 pub mod Pictures
 pub mod Printing
-pub mod Explaining
-pub mod Reasons
-pub mod WorldLines
-pub mod Replays
-pub mod PicturesWhy
-pub mod Zips
-pub mod SupposedTexts
-pub mod Leftovers
 pub mod Judgements
 pub mod FilledParts

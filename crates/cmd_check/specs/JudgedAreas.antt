@@ -1,13 +1,15 @@
 -- The lines of `check` on the areas of a net with supposed and left out systems.
-use Rattle.std.specs.Prelude.{◌≡◌, ℕ, ◌-◌, ◌&&◌, Bool, true, false, not, List, [], ◌∷◌, ◌++◌, codes, decimal, filter, length, Option, Result}
+use Rattle.std.specs.Prelude.{◌≡◌, ℕ, ◌-◌, ◌&&◌, Bool, true, false, not, List, [], ◌∷◌, ◌++◌, codes, decimal, length, Option, Result}
 use Rattle.std.specs.List.{count_by, flat_map, list_any}
 use Rattle.echo_addr.specs.{declared.address.Address.Address, Address.address_text}
 use Rattle.echo_charset.specs.Words.{printed_word}
 use Rattle.echo_links.specs.Links.{LinkFile, has_area}
-use Rattle.echo_net.specs.{Listings.is_listed, Parts.AreCutOff}
 use Rattle.echo_nodelist.specs.declared.line.Line.{Line}
 use Rattle.cmd_status.specs.{Devices.Output, declared.fault.Fault.Fault, Ended.Answers}
-use Rattle.cmd_check.specs.{Assuming.assumed_line, Assuming.assumed_note, Assuming.link_word, CheckingAll.AreEachChecked, CheckingAll.IsAreaChecked, SupposedFiles.AreUnseen}
+use Rattle.cmd_check.specs.CheckingAll.{AreEachChecked, IsAreaChecked}
+use Rattle.cmd_suppose.specs.{Assuming.assumed_line, Assuming.assumed_note, Assuming.link_word}
+use Rattle.echo_net.specs.{Parts.AreCutOff}
+use Rattle.cmd_suppose.specs.SupposedFiles.{AreUnseen, supposed_here, unseen_line, unseen_note}
 
 -- The given files, these with those of the supposed systems, what is left of them, the supposed and the left out
 -- systems.
@@ -25,20 +27,9 @@ judged_net given whole left assumed out = record { given = given; whole = whole;
 abbrev pub is_alone : List LinkFile → List LinkFile → List ℕ → Bool
 is_alone whole left tag = list_any (λ file. has_area file tag) whole && not (list_any (λ file. has_area file tag) left)
 
--- The supposed systems of the area. If all areas are judged, these are the ones that a given file lists there.
-abbrev pub supposed_here : Bool → List LinkFile → List ℕ → List Address → List Address
-supposed_here true files tag assumed = filter (is_listed files tag) assumed
-supposed_here false files tag assumed = assumed
-
 -- The line of an area that only left out systems have.
 abbrev pub alone_line : List ℕ → List ℕ
 alone_line tag = codes "alone " ++ (printed_word tag ++ codes "\n")
-
--- The line of the systems behind which nothing was seen. One alone has no line.
-abbrev pub unseen_line : List Address → List ℕ
-unseen_line [] = []
-unseen_line (a ∷ []) = []
-unseen_line (a ∷ (b ∷ more)) = codes "unseen" ++ (flat_map link_word (a ∷ (b ∷ more)) ++ codes "\n")
 
 -- The line of a part that is cut off.
 abbrev pub cut_line : List Address → List ℕ
@@ -101,11 +92,6 @@ AreNetLines net list more listed tags noes lines =
     × (lines ≡ front ++ judged_areas_line (listed && more) (length tags) (count_by (is_alone net.whole net.left) tags) noes)
 
 -- The notes on the supposed systems, those behind which nothing was seen, and the left out ones.
-abbrev pub unseen_note : List ℕ → List Address → List ℕ
-unseen_note begin [] = []
-unseen_note begin (a ∷ []) = []
-unseen_note begin (a ∷ (b ∷ more)) = begin ++ unseen_line (a ∷ (b ∷ more))
-
 abbrev pub without_note : List ℕ → Address → List ℕ
 without_note begin a = begin ++ without_line a
 

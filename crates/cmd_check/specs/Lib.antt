@@ -2,15 +2,7 @@ pub mod AreaTags
 pub mod Further
 pub mod Checking
 pub mod CheckingAll
-pub mod Assuming
-pub mod SupposedFiles
-pub mod Leaving
 pub mod JudgedAreas
 pub mod Supposing
 pub mod Picturing
 pub mod PicturingParts
-pub mod Whys
-pub mod Reasoning
-pub mod Replayed
-pub mod Replaying
-pub mod PicturingWhy

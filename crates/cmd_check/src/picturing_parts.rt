@@ -7,10 +7,10 @@ ghost use Rattle.cmd_check.specs.JudgedAreas.{is_alone};
 ghost use Rattle.cmd_check.specs.PicturingParts.{IsLeftDrawn, IsPartsDrawn, PictureWithoutAnswers, filled_line, filled_lines, picture_front};
 
 use crate::checking::check_status;
-use crate::leaving::files_left;
 use crate::supposed_areas::{is_alone, push_alone};
 use cmd_print::push_picture;
 use cmd_status::{Fault, Status, link_files, print_rest};
+use cmd_suppose::files_left;
 use disk_io::Sink;
 use echo_addr::{Address, Items};
 use echo_charset::written;

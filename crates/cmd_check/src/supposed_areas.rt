@@ -6,14 +6,17 @@ ghost use Rattle.echo_net.specs.Listings.{IsListing};
 ghost use Rattle.cmd_status.specs.{Devices.output_of};
 ghost use Rattle.cmd_print.specs.Pushed.{Pushes};
 ghost use Rattle.cmd_check.specs.CheckingAll.{IsAreaChecked};
-ghost use Rattle.cmd_check.specs.JudgedAreas.{AreAreasJudged, AreNetLines, AreTailLines, CutsShown, IsAreaJudged, IsVerdictLeft, PrintsSupposed, alone_line, cut_line, judged_areas_line, judged_net, supposed_notes, unseen_note, without_line, without_note};
+ghost use Rattle.cmd_check.specs.JudgedAreas.{AreAreasJudged, AreNetLines, AreTailLines, CutsShown, IsAreaJudged, IsVerdictLeft, PrintsSupposed, alone_line, cut_line, judged_areas_line, judged_net, supposed_notes, without_line, without_note};
 ghost use Rattle.cmd_check.specs.JudgedAreas as judged;
+ghost use Rattle.cmd_suppose.specs.SupposedFiles.{unseen_note};
 
-use crate::assuming::{is_carried, push_assumed_lines, push_links, push_notes};
 use crate::checking::push_check;
 use crate::checking_all::no_count;
-use crate::supposed_files::{SupposedAreas, SupposedHere, push_unseen_line, supposed_here, unseen};
 use cmd_status::{Fault, print_rest};
+use cmd_suppose::{
+    SupposedAreas, SupposedHere, is_carried, push_assumed_lines, push_links, push_notes,
+    push_unseen_line, supposed_here, unseen,
+};
 use disk_io::Sink;
 use echo_addr::{Address, Items};
 use echo_charset::{push_word, written};

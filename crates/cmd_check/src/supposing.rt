@@ -5,19 +5,19 @@ ghost use Rattle.echo_links.specs.Links.{LinkFile, upper};
 ghost use Rattle.echo_net.specs.Listings.{IsListing};
 ghost use Rattle.cmd_status.specs.{Devices.output_of, declared.status.Status.TheVariants.Good, Ended.Answers, Inputs.AreLinkFiles, Inputs.IsLinkFault};
 ghost use Rattle.cmd_check.specs.JudgedAreas.{judged_net};
-ghost use Rattle.cmd_check.specs.Leaving.{is_judged, texts_left};
+ghost use Rattle.cmd_suppose.specs.Leaving.{is_judged, texts_left};
 ghost use Rattle.cmd_check.specs.declared.supposing.Judged.TheVariants.{Ended};
 ghost use Rattle.cmd_check.specs.Supposing.{AreJudgedTags, IsJudged, IsJudgingFault, IsKnownFault, IsKnownJudged, IsLeftShown, IsNetShown, IsPromisedSupposing, SupposingAnswers, ended_as};
 
 use crate::area_tags::area_tags;
 use crate::checking::Besides;
 use crate::checking_all::status_of_verdicts;
-use crate::leaving::{files_left, first_unknown, is_judged};
 use crate::supposed_areas::{Judging, Net, push_net};
-use crate::supposed_files::{
-    Supposed, SupposedAreas, listings, one_tag, read_supposed, supposed_in,
-};
 use cmd_status::{Fault, Status, link_files, nodelist_given, print_rest};
+use cmd_suppose::{
+    Supposed, SupposedAreas, files_left, first_unknown, is_judged, listings, one_tag,
+    read_supposed, supposed_systems,
+};
 use disk_io::Sink;
 use echo_addr::{Address, Items};
 use echo_links::LinkFile;
@@ -194,7 +194,7 @@ fn check_read<'a, W: Sink>(
         (output_of W.contents W.failures W.holds out.old) (output_of W.contents W.failures W.holds out.new) result }
 {
     let listings = listings(alloc, links.as_slice(), tags)?;
-    let assumed = supposed_in(
+    let assumed = supposed_systems(
         alloc,
         links.as_slice(),
         &listings,

@@ -1,12 +1,12 @@
 use cmd_check::{
-    Besides, Judged, Supposed, SupposedHere, check, check_all, check_supposing,
-    first_unknown_address, picture, picture_remaining, picture_why, print_supposed, replay,
-    suppose, why,
+    Besides, Judged, check, check_all, check_supposing, picture, picture_remaining, print_supposed,
 };
 use cmd_input::{
     MAX_INPUT, MAX_TEXT_FILE, PathNames, Progress, read_file, read_if_given, read_links,
 };
 use cmd_status::{Fault, Status, parse_address};
+use cmd_suppose::{Supposed, SupposedHere, first_unknown_address, suppose};
+use cmd_why::{picture_why, replay, why};
 use cmd_words::{CheckWords, PictureWords, WhyWords};
 use disk_io::Sink;
 use echo_addr::{Address, Items};

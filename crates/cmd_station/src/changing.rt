@@ -35,14 +35,10 @@ pub(crate) fn find_and_change<W: Sink, E: Sink>(
     out: &mut W,
     errors: &mut E,
 ) -> Status {
-    let mut locks = station_locks(rt, place);
-    let found = match find_base(rt, place, &mut locks) {
-        Ok(found) => found,
-        Err(fault) => return fault.report(errors),
-    };
-    match change_found(found.at(rt, place), &mut locks, asked, unread, out) {
-        Ok(()) => Status::Good,
-        Err(fault) => fault.report(errors),
+    match find_and_post(rt, place, asked, unread, out, errors) {
+        PostEnd::Posted => Status::Good,
+        PostEnd::Refused(why) => Fault::Post(why).report(errors),
+        PostEnd::Stopped(status) => status,
     }
 }
 
@@ -70,19 +66,20 @@ fn change_found<'a, L: FileLock, K: FileLock, W: Sink>(
     }
 }
 
-/// How the posting of one message ended. A fault that stops all of them was reported.
-#[derive(Clone, Copy, Debug)]
+/// How a change ended. The fault that stopped it was reported.
+#[derive(Clone, Copy)]
 pub(crate) enum PostEnd {
     Posted,
     Refused(PostFault),
     Stopped(Status),
 }
 
-/// Finds the base of a station, and posts a message there, as it was asked.
+/// The same. A posting that is refused is not reported.
 pub(crate) fn find_and_post<'a, W: Sink, E: Sink>(
     rt: &'a HostRuntime,
     place: Place<'a>,
     asked: &mut BaseCommand<'_>,
+    unread: Option<Fault<'a>>,
     out: &mut W,
     errors: &mut E,
 ) -> PostEnd {
@@ -91,7 +88,7 @@ pub(crate) fn find_and_post<'a, W: Sink, E: Sink>(
         Ok(found) => found,
         Err(fault) => return PostEnd::Stopped(fault.report(errors)),
     };
-    match change_found(found.at(rt, place), &mut locks, asked, None, out) {
+    match change_found(found.at(rt, place), &mut locks, asked, unread, out) {
         Ok(()) => PostEnd::Posted,
         Err(Fault::Post(why)) => PostEnd::Refused(why),
         Err(fault) => PostEnd::Stopped(fault.report(errors)),

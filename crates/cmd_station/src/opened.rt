@@ -23,26 +23,20 @@ pub(crate) struct Opened<'a, 'b, 'r> {
 }
 
 impl<'a, 'b, 'r> Opened<'a, 'b, 'r> {
-    /// For the folder of this name, with the packets that are tossed into it, if there are any.
+    /// For the folder of this name, with the packets that are tossed into it, and the folder that packets are written
+    /// into, if there are any.
     pub(crate) fn new(
         rt: &'r HostRuntime,
         base: &'a str,
         toss: Option<Tossing<'b>>,
+        outbound: Option<&'a str>,
     ) -> Opened<'a, 'b, 'r> {
         Opened {
             rt,
             base,
             toss,
-            outbound: None,
+            outbound,
             met: None,
-        }
-    }
-
-    /// The same for a command that writes packets into this folder.
-    pub(crate) fn apart_from(self, outbound: &'a str) -> Opened<'a, 'b, 'r> {
-        Opened {
-            outbound: Some(outbound),
-            ..self
         }
     }
 

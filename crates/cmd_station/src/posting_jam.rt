@@ -176,6 +176,7 @@ impl<'a> JamPoster<'a> {
             self.rt,
             self.place,
             &mut BaseCommand::Post(post),
+            None,
             out,
             errors,
         )

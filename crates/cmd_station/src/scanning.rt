@@ -25,11 +25,17 @@ use std::rt::Files;
 /// How many messages are scanned between two looks at the clock.
 const SOME: usize = 1_000;
 
-/// A scan: its station, its stamp, and its folder. `folder` is the folder as the operator named it, and `slashed` the
-/// path before the names of its files.
+/// A station, and where its packets go.
 #[derive(Clone, Copy)]
 pub struct StationScan<'a> {
     pub at: Station<'a>,
+    pub to: Outbound<'a>,
+}
+
+/// The stamp of a scan, and the folder of its packets: as the operator named it, and the path before the names of its
+/// files.
+#[derive(Clone, Copy)]
+pub struct Outbound<'a> {
     pub stamp: Stamp,
     pub folder: &'a str,
     pub slashed: &'a str,
@@ -60,14 +66,6 @@ pub(crate) fn run_scan<W: Sink, E: Sink>(
     }
 }
 
-// The stamp of a scan, and its folder in both forms.
-#[derive(Clone, Copy)]
-struct Outbound<'a> {
-    stamp: Stamp,
-    folder: &'a str,
-    slashed: &'a str,
-}
-
 // Finds the base and scans it, and reports the fault.
 fn find_and_scan<'a, W: Sink, E: Sink>(
     rt: &'a HostRuntime,
@@ -82,14 +80,16 @@ fn find_and_scan<'a, W: Sink, E: Sink>(
         Ok(found) => found,
         Err(fault) => return fault.report(errors),
     };
-    let at = found.at(rt, place);
-    scan_found(at, to, &mut locks, progress, out, errors)
+    let scan = StationScan {
+        at: found.at(rt, place),
+        to,
+    };
+    scan_found(scan, &mut locks, progress, out, errors)
 }
 
 // Scans a station with a found base, and reports the fault.
 fn scan_found<'a, L: FileLock, K: FileLock, W: Sink, E: Sink>(
-    at: Station<'a>,
-    to: Outbound<'a>,
+    scan: StationScan<'a>,
     locks: &mut Locks<L, K>,
     progress: &'a Progress<'a>,
     out: &mut W,
@@ -97,18 +97,7 @@ fn scan_found<'a, L: FileLock, K: FileLock, W: Sink, E: Sink>(
 ) -> Status
     requires { AreFree (L.held locks.old.links) (K.held locks.old.base) }
 {
-    let Outbound {
-        stamp,
-        folder,
-        slashed,
-    } = to;
-    let scan = StationScan {
-        at,
-        stamp,
-        folder,
-        slashed,
-    };
-    let files = ScanFiles::new(scan.at.rt, scan.at.path, scan.slashed, progress);
+    let files = ScanFiles::new(scan.at.rt, scan.at.path, scan.to.slashed, progress);
     let done = match scan.at.folder {
         Some(found) => scan_folder(scan, progress, &files, locks, found, out),
         None => {
@@ -151,7 +140,7 @@ fn scan_folder<'a, F: Files + Drop + 'a, L: FileLock, K: FileLock, W: Sink>(
 {
     let at = scan.at;
     let disk = RealDisk::new(files, Unknown);
-    let mut opened = Opened::new(at.rt, at.place.base, None).apart_from(scan.folder);
+    let mut opened = Opened::new(at.rt, at.place.base, None, Some(scan.to.folder));
     let station = folder_station(at, found);
     scan_over(scan, progress, disk, locks, station, &mut opened, out)
 }
@@ -178,15 +167,14 @@ fn scan_over<
     requires can { Honestly (D.state disk) (P.can_open station (D.state disk)) }
 {
     let watch = ScanProgress { progress };
-    let scanned = scan_station(
-        scan.at.rt.alloc(),
-        disk,
-        locks,
-        station,
-        before,
-        &mut wanted(scan, &watch),
-        out,
-    );
+    let rt = scan.at.rt;
+    let mut wanted = Wanted {
+        stamp: scan.to.stamp,
+        outbound: scan.to.slashed.as_bytes(),
+        listing: LeftFiles::new(rt),
+        watch: &watch,
+    };
+    let scanned = scan_station(rt.alloc(), disk, locks, station, before, &mut wanted, out);
     scanned.done
 }
 
@@ -208,19 +196,6 @@ fn report_scanned<E: Sink>(
         Err(ScanError::Staying(cause)) => {
             report_unplaced(scan, files, PlacingError::from(cause), errors)
         }
-    }
-}
-
-// The scan in the form of station_scan.
-fn wanted<'w, 'a: 'w>(
-    scan: StationScan<'a>,
-    watch: &'w ScanProgress<'a>,
-) -> Scan<'w, LeftFiles<'a>, ScanProgress<'a>> {
-    Scan {
-        stamp: scan.stamp,
-        outbound: scan.slashed.as_bytes(),
-        listing: LeftFiles::new(scan.at.rt),
-        watch,
     }
 }
 

@@ -1,6 +1,6 @@
 //! The path at which the packets of a scan could not be put in place.
 
-use crate::scanning::StationScan;
+use crate::scanning::{Outbound, StationScan};
 use cmd_base::ScanFiles;
 use cmd_status::{Fault, Status};
 use cmd_words::Place;
@@ -21,23 +21,17 @@ pub fn report_unplaced<E: Sink>(
     };
     match &met {
         Some(met) => {
-            let path = named(scan.at.place, scan.at.path, scan.folder, scan.slashed, met);
+            let path = named(scan.at.place, scan.at.path, scan.to, met);
             Fault::CannotUse(path).report(errors)
         }
-        None => Fault::CannotUse(scan.folder).report(errors),
+        None => Fault::CannotUse(scan.to.folder).report(errors),
     }
 }
 
 // The path at which a call failed, as the operator named it: the folder of packets, the base, or a packet.
-fn named<'n>(
-    place: Place<'n>,
-    base: &str,
-    folder: &'n str,
-    slashed: &str,
-    met: &'n str,
-) -> &'n str {
-    if met == slashed {
-        return folder;
+fn named<'n>(place: Place<'n>, base: &str, to: Outbound<'n>, met: &'n str) -> &'n str {
+    if met == to.slashed {
+        return to.folder;
     }
     if is_of_base(base, met) {
         return place.base;

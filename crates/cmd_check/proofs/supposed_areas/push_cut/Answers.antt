@@ -1,5 +1,6 @@
 use Rattle.std.proofs.Common.{length}
-use Rattle.cmd_check.proofs.{Judgements.none_cut, Judgements.some_cut, Leftovers.empty_none, Leftovers.full_some}
+use Rattle.cmd_check.proofs.Judgements.{none_cut, some_cut}
+use Rattle.cmd_suppose.proofs.Leftovers.{empty_none, full_some}
 use Rattle.cmd_check.proofs.supposed_areas.push_cut.Goals as goal
 
 pub returns-then-is_empty : goal.returns-then-is_empty

@@ -1,7 +1,7 @@
 use Rattle.std.proofs.Common.{◌≡◌, None, arith}
 use Rattle.std.specs.Option.{option_copied}
 use Rattle.cmd_status.specs.{Devices.output_of}
-use Rattle.cmd_check.specs.Leaving.{first_unknown}
+use Rattle.cmd_suppose.specs.Leaving.{first_unknown}
 use Rattle.cmd_check.proofs.Judgements.{supposing_ended}
 use Rattle.cmd_check.proofs.supposing.check_given.Goals as goal
 

@@ -2,7 +2,8 @@ use Rattle.std.proofs.{Common.inr, Common.refl, lemmas.Result.err_from_is_err_an
 use Rattle.std.specs.Option.{option_copied}
 use Rattle.echo_net.specs.Listings.{IsListing}
 use Rattle.cmd_status.specs.Devices.{output_of}
-use Rattle.cmd_check.proofs.{Judgements.supposed_refused, Judgements.was_judged, Zips.zip_length}
+use Rattle.cmd_check.proofs.Judgements.{supposed_refused, was_judged}
+use Rattle.cmd_suppose.proofs.Zips.{zip_length}
 use Rattle.cmd_check.proofs.supposing.check_read.Goals as goal
 
 pub read_supposed-requires : goal.read_supposed-requires

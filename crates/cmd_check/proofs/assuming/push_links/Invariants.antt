@@ -1,7 +1,0 @@
-use Rattle.std.proofs.Common.{◌≡◌, ◌++◌, take}
-use Rattle.std.specs.List.{flat_map}
-use Rattle.cmd_check.specs.Assuming.{link_word}
-use Rattle.cmd_check.proofs.assuming.push_links.Given as goal
-
-abbrev pub invariant-links : goal.invariant-links
-invariant-links l = l.text.items ≡ l.initial.text.items ++ flat_map link_word (take l.link-index l.links)

@@ -1,7 +1,0 @@
-use Rattle.std.proofs.Common.{◌≡◌, ◌++◌, take}
-use Rattle.std.specs.List.{flat_map}
-use Rattle.cmd_check.specs.Assuming.{assumed_note}
-use Rattle.cmd_check.proofs.assuming.push_notes.Given as goal
-
-abbrev pub invariant-assumed : goal.invariant-assumed
-invariant-assumed l = l.lines.items ≡ l.initial.lines.items ++ flat_map (assumed_note l.begin) (take l.address-index l.assumed)

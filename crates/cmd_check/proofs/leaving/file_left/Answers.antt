@@ -1,5 +1,0 @@
-use Rattle.std.proofs.Common.{arith, append_assoc}
-use Rattle.cmd_check.proofs.leaving.file_left.Goals as goal
-
-pub returns : goal.returns
-returns c = grind (arith, append_assoc)

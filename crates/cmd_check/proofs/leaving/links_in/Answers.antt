@@ -1,9 +1,0 @@
-use Rattle.std.proofs.Common.{arith}
-use Rattle.echo_net.proofs.Collected.{links_found}
-use Rattle.cmd_check.proofs.leaving.links_in.Goals as goal
-
-pub returns-in-Some : goal.returns-in-Some
-returns-in-Some c = grind (arith, links_found)
-
-pub returns-in-None : goal.returns-in-None
-returns-in-None c = grind (arith, links_found)

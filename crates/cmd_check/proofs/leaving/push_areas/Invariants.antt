@@ -1,7 +1,0 @@
-use Rattle.std.proofs.Common.{◌≡◌, ◌++◌, take}
-use Rattle.std.specs.List.{flat_map}
-use Rattle.cmd_check.specs.Leaving.{area_left}
-use Rattle.cmd_check.proofs.leaving.push_areas.Given as goal
-
-abbrev pub invariant-areas : goal.invariant-areas
-invariant-areas l = l.text.items ≡ l.initial.text.items ++ flat_map (area_left l.out l.file) (take l.k l.file.areas)

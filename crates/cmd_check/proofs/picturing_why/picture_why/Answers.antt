@@ -1,5 +1,0 @@
-use Rattle.std.proofs.Common.{arith}
-use Rattle.cmd_check.proofs.picturing_why.picture_why.Goals as goal
-
-pub returns : goal.returns
-returns g c = grind arith

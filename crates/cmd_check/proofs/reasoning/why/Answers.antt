@@ -1,5 +1,0 @@
-use Rattle.std.proofs.Common.{arith}
-use Rattle.cmd_check.proofs.reasoning.why.Goals as goal
-
-pub returns : goal.returns
-returns g c = grind arith

@@ -1,5 +1,0 @@
-use Rattle.std.proofs.Common.{arith}
-use Rattle.cmd_check.proofs.replaying.replay.Goals as goal
-
-pub returns : goal.returns
-returns g c = grind arith

@@ -1,6 +1,0 @@
-use Rattle.std.proofs.Common.{arith}
-use Rattle.cmd_check.proofs.SupposedTexts.{file_written}
-use Rattle.cmd_check.proofs.supposed_files.file_text.Goals as goal
-
-pub returns : goal.returns
-returns c = grind (arith, file_written)

@@ -1,6 +1,0 @@
-use Rattle.std.proofs.Common.{arith}
-use Rattle.cmd_check.proofs.Zips.{zip_next}
-use Rattle.cmd_check.proofs.supposed_files.listings.Goals as goal
-
-pub tags-preserved : goal.tags-preserved
-tags-preserved c = grind (arith, zip_next)

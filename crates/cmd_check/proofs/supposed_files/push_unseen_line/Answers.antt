@@ -1,9 +1,0 @@
-use Rattle.std.proofs.Common.{arith, append_assoc, append-nil}
-use Rattle.cmd_check.proofs.SupposedTexts.{few_unseen, many_unseen}
-use Rattle.cmd_check.proofs.supposed_files.push_unseen_line.Goals as goal
-
-pub returns-then-unseen-lt2 : goal.returns-then-unseen-lt2
-returns-then-unseen-lt2 c = grind (arith, few_unseen, append-nil)
-
-pub returns : goal.returns
-returns c = grind (arith, many_unseen, append_assoc)

@@ -1,7 +1,0 @@
--- The files so far were read.
-use Rattle.std.proofs.Common.{take}
-use Rattle.cmd_check.specs.SupposedFiles.{ReadsMore}
-use Rattle.cmd_check.proofs.supposed_files.read_more.Given as goal
-
-abbrev pub invariant-texts : goal.invariant-texts
-invariant-texts l = ReadsMore (take l.text-index l.texts) l.initial.links.items l.links.items

@@ -1,7 +1,0 @@
-use Rattle.std.specs.Option.{option_copied}
-use Rattle.cmd_check.proofs.Reasons.{were_named}
-use Rattle.cmd_check.proofs.who_text.named.Goals as goal
-
-pub returns : goal.returns
-returns c =
-    were_named c.args.verdict.now (option_copied c.args.found) _ _ c.in_ok-systems.ensures c.put_in_order.ensures.ascending c.put_in_order.ensures.members

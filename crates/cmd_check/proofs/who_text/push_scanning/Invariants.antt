@@ -1,7 +1,0 @@
-use Rattle.std.proofs.Common.{◌≡◌, ◌++◌, take}
-use Rattle.std.specs.List.{flat_map}
-use Rattle.cmd_check.specs.Whys.{scanning}
-use Rattle.cmd_check.proofs.who_text.push_scanning.Given as goal
-
-abbrev pub invariant-moves : goal.invariant-moves
-invariant-moves l = l.systems.items ≡ l.initial.systems.items ++ flat_map scanning (take l.one-index l.moves)

@@ -1,7 +1,0 @@
-use Rattle.std.proofs.Common.{◌≡◌, ◌++◌, take}
-use Rattle.std.specs.List.{flat_map}
-use Rattle.cmd_check.specs.Whys.{who_line}
-use Rattle.cmd_check.proofs.who_text.push_systems.Given as goal
-
-abbrev pub invariant-systems : goal.invariant-systems
-invariant-systems l = l.lines.items ≡ l.initial.lines.items ++ flat_map (who_line l.files l.paths) (take l.system-index l.systems)

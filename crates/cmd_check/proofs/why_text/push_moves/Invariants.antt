@@ -1,7 +1,0 @@
-use Rattle.std.proofs.Common.{◌≡◌, ◌++◌, take}
-use Rattle.std.specs.List.{flat_map}
-use Rattle.cmd_check.specs.Whys.{move_line}
-use Rattle.cmd_check.proofs.why_text.push_moves.Given as goal
-
-abbrev pub invariant-moves : goal.invariant-moves
-invariant-moves l = l.lines.items ≡ l.initial.lines.items ++ flat_map move_line (take l.one-index l.moves)

@@ -1,6 +1,0 @@
-use Rattle.std.proofs.{Common.arith, lemmas.Result.on_ok_weaker}
-use Rattle.cmd_check.proofs.Reasons.{why_pushed}
-use Rattle.cmd_check.proofs.why_text.push_why.Goals as goal
-
-pub returns : goal.returns
-returns c = grind (arith, on_ok_weaker, why_pushed)

@@ -1,0 +1,3 @@
+pub mod Assuming
+pub mod SupposedFiles
+pub mod Leaving

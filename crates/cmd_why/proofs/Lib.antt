@@ -1,0 +1,10 @@
+pub mod Counting
+pub mod Judged
+pub mod Harms
+pub mod OfBytes
+pub mod Bringing
+pub mod ShownRuns
+pub mod Reasons
+pub mod WorldLines
+pub mod Replays
+pub mod PicturesWhy

@@ -1,0 +1,36 @@
+-- The answer of `replay`, from those of its parts.
+use Rattle.std.proofs.Common.{◌≡◌, ℕ, List, [], ◌++◌, length, map, sym, ap, ◌∙◌, Ok}
+use Rattle.std.proofs.lemmas.List.{length-map}
+use Rattle.echo_links.specs.Links.{LinkFile}
+use Rattle.model_run.specs.{Event.RunEvent, Event.run_event, Run.Run, Run.System, Run.run_of, declared.event.Event.Event}
+use Rattle.model_replay.specs.{Script.ScriptOf, Worlds.IsWorldOf, Worlds.WorldState}
+use Rattle.cmd_status.specs.{declared.status.Status.Status, declared.status.Status.TheVariants.Good, Inputs.AreLinkFiles}
+use Rattle.cmd_why.specs.{Replaying.AreWorldLines, Replaying.IsReplayed, Replayed.replay_lines}
+use Rattle.cmd_status.proofs.Lines.{alone}
+use Rattle.model_run.proofs.HarmSteps.{run-files as run_files}
+
+pub run_length : (files : List LinkFile) (events : List RunEvent) → length (run_of files events).systems ≡ length files
+run_length files events = sym (length-map (run_of files events).systems (λ (s : System). s.file)) ∙ ap length (run_files files events)
+
+-- the lines of a replay
+pub was_replayed : (script : List ℕ) (inputs : List (List ℕ)) (events : List Event) (files : List LinkFile) (world : WorldState) (systems : ℕ)
+    (lines : List ℕ) (status : Status) → ScriptOf script (Ok events) → AreLinkFiles inputs files → systems ≡ length files
+    → IsWorldOf world (run_of files (map run_event events)) → AreWorldLines systems world lines → status ≡ Good → IsReplayed script inputs lines status
+was_replayed script inputs events files world systems lines status script-of are many is printed good =
+    let run : Run = run_of files (map run_event events) in
+    record {
+      events = events;
+      are_events = script-of;
+      files = files;
+      are_files = are;
+      printed = printed run is (run_length files (map run_event events) ∙ sym many)
+          ∙ ap (λ (f : List LinkFile). replay_lines f run) (run_files files (map run_event events));
+      status_is = good;
+    }
+
+-- lines after no other lines
+pub world_alone : (systems : ℕ) (world : WorldState) (none lines : List ℕ) → none ≡ []
+    → ((run : Run) → IsWorldOf world run → length run.systems ≡ systems → lines ≡ none ++ replay_lines (map (λ (s : System). s.file) run.systems) run)
+    → AreWorldLines systems world lines
+world_alone systems world none lines nothing pushed =
+    λ run is many. alone none lines (replay_lines (map (λ (s : System). s.file) run.systems) run) nothing (pushed run is many)

@@ -1,0 +1,7 @@
+use Rattle.model_replay.specs.Worlds.{IsWorldOf}
+use Rattle.model_run.specs.Run.{Run}
+use Rattle.cmd_why.proofs.Judged.{NoneBefore}
+use Rattle.cmd_why.proofs.judging.is_nobody.Given as goal
+
+abbrev pub invariant-systems : goal.invariant-systems
+invariant-systems l = (run : Run) → IsWorldOf l.world run → NoneBefore run l.i l.to

@@ -1,0 +1,9 @@
+pub mod Shown
+pub mod Sources
+pub mod Found
+pub mod Carrying
+pub mod Whys
+pub mod Reasoning
+pub mod Replayed
+pub mod Replaying
+pub mod PicturingWhy

@@ -1,9 +1,0 @@
-use Rattle.std.proofs.Common.{ap}
-use Rattle.echo_packet.specs.Answer.{Found}
-use Rattle.model_why.proofs.Counting.{same_parts}
-use Rattle.model_why.proofs.carrying.parts_of.Goals as goal
-
-pub returns-in-Ok : goal.returns-in-Ok
-returns-in-Ok c = λ p fits is.
-    let same = same_parts p c.args.bytes.now _ fits is c.in-Ok.ensures.only in
-    (ap (λ (f : Found). f.0) same, ap (λ (f : Found). f.1) same)

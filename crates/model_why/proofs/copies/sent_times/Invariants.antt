@@ -1,8 +1,0 @@
-use Rattle.std.proofs.Common.{◌≡◌, take}
-use Rattle.echo_filed.specs.declared.key.Key.TheVariants.{ById}
-use Rattle.model_replay.specs.Worlds.{IsWorldOf}
-use Rattle.model_run.specs.{Orderly.sent_count, Run.Run}
-use Rattle.model_why.proofs.copies.sent_times.Given as goal
-
-abbrev pub invariant-packets : goal.invariant-packets
-invariant-packets l = (run : Run) → IsWorldOf l.world run → l.times ≡ sent_count l.to (ById l.tag l.id) (take l.k run.packets)

@@ -1,7 +1,0 @@
-use Rattle.model_replay.specs.Worlds.{IsWorldOf}
-use Rattle.model_run.specs.Run.{Run}
-use Rattle.model_why.proofs.Judged.{NoneBefore}
-use Rattle.model_why.proofs.judging.is_nobody.Given as goal
-
-abbrev pub invariant-systems : goal.invariant-systems
-invariant-systems l = (run : Run) → IsWorldOf l.world run → NoneBefore run l.i l.to

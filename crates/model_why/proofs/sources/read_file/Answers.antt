@@ -1,5 +1,0 @@
-use Rattle.model_why.proofs.OfBytes.{of_bytes}
-use Rattle.model_why.proofs.sources.read_file.Goals as goal
-
-pub returns-in-Ok : goal.returns-in-Ok
-returns-in-Ok c = (of_bytes c.args.bytes.now c.in-Ok.file c.in-Ok.ensures.judged).1

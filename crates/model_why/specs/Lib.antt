@@ -1,4 +1,0 @@
-pub mod Shown
-pub mod Sources
-pub mod Found
-pub mod Carrying
