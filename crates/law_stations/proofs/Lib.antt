@@ -39,6 +39,7 @@ pub mod OverCrashes
 mod Leading
 pub mod Events
 pub mod Runs
+pub mod PacketNames
 pub mod ScanEvents
 pub mod ScanStays
 pub mod Neighbours
@@ -46,4 +47,6 @@ pub mod Seated
 pub mod Sequence
 pub mod GoingOn
 pub mod ScanSteps
+pub mod Folders
+pub mod SequenceExample
 pub mod ShownPackets

@@ -13,10 +13,10 @@ use Rattle.base_store.specs.Store.{all_scanned}
 use Rattle.cmd_store.specs.{Scanned.ScansOn, declared.command_error.CommandError.CommandError, declared.command_error.CommandError.TheVariants.Met}
 use Rattle.echo_toss.specs.PacketsIn.{state_in}
 use Rattle.station.specs.{Place.KeepsElsewhere, Place.Place, Place.RepresentsOrWasLeft, Running.IsNotRun, Running.IsStopped}
-use Rattle.station_scan.specs.Scanning.{AreSentOut, IsOnItsWay, IsPreparing, IsPutAs, IsPutIn, IsTaken, IsTouched, MayLeave, ScansIn, StopsScanIn, ReportsStop, packets_in}
-use Rattle.station_scan.specs.{Left.IsLeftOf, Publishing.UnchangedExcept, Sending.HasBytes, Sending.IsStagingOfPacket, Sending.IsOfPacket, Sending.IsWhole, Sends.IsOfThese, Stops.IsOfPlacing, Stops.as_scan, Stops.most, declared.scan_error.ScanError.ScanError, declared.scan_error.ScanError.TheVariants.Command, declared.scan_error.ScanError.TheVariants.Staying}
-use Rattle.law_stations.specs.{Scans.AreAfterScan, Scans.IsAfterScan, Scans.IsAtPath, Scans.IsStagingPath, Scans.ScansAsEvent, Scans.ScansAsMay, Scans.with_packets_in, Nets.Station, Nets.bytes_of, Nets.with_base, Nets.with_left, Disks.Disks, Disks.HasCursor, Disks.cursor_of, Stopping.EndsSome, Stopping.HasNoneStaged, Stopping.Moves, Stopping.staging_of, OnDisks.IsLinkedOn, OnDisks.IsStationAt, OnDisks.ReadsLinks, OnDisks.ShowsStation}
-use Rattle.law_stations.proofs.{Elsewhere.some-stations, Moving.some-waits, Parted.Parted, Parted.all-named, Parted.parted, Whole.disks_with, Whole.with_packets}
+use Rattle.station_scan.specs.Scanning.{AreSentOut, CommitsScan, IsOnItsWay, IsPreparing, IsPutAs, IsPutIn, IsTaken, IsTouched, MayLeave, ScansIn, StopsScanIn, ReportsStop, packets_in}
+use Rattle.station_scan.specs.{Left.IsLeftOf, Publishing.IsOnDisk, Publishing.UnchangedExcept, Sending.IsFreeAt, Sending.HasBytes, Sending.IsStagingOfPacket, Sending.IsOfPacket, Sending.IsWhole, Sends.IsOfThese, Stops.IsOfPlacing, Stops.as_scan, Stops.most, declared.scan_error.ScanError.ScanError, declared.scan_error.ScanError.TheVariants.Command, declared.scan_error.ScanError.TheVariants.Staying}
+use Rattle.law_stations.specs.{Scans.AreAfterScan, Scans.IsBeforeCommit, Scans.KeepsPackets, PacketNames.AreOfNet, PacketNames.IsListed, PacketNames.ShowsPackets, Scans.IsAfterScan, Scans.IsAtPath, Scans.IsStagingPath, Scans.ScansAsEvent, Scans.ScansAsMay, Scans.with_packets_in, Nets.Station, Nets.bytes_of, Nets.with_base, Nets.with_left, Disks.Disks, Disks.HasCursor, Disks.cursor_of, Stopping.EndsSome, Stopping.HasNoneStaged, Stopping.Moves, Stopping.staging_of, OnDisks.IsLinkedOn, OnDisks.IsStationAt, OnDisks.ReadsLinks, OnDisks.ShowsStation}
+use Rattle.law_stations.proofs.{PacketNames.as-seen, PacketNames.before-commit, PacketNames.while-preparing, Systems.one-file, Elsewhere.some-stations, Moving.some-waits, Parted.Parted, Parted.all-named, Parted.parted, Whole.disks_with, Whole.with_packets}
 use Rattle.model_run.proofs.{HarmLists.nth-changed as changed-there, Targets.some_same, Targets.none_some}
 
 left-away : (is_true : Type 0) (Own : List ℕ → Type 0) (outbound own : List ℕ) (found : List Left) → All (IsLeftOf is_true Own outbound own) found → (m : List ℕ) → (IsTouched Own outbound m → ⊥) → IsOfLeft found m → ⊥
@@ -41,12 +41,19 @@ staging-away Own outbound own files m away (inr is) = tried-away Own outbound ow
 these-away : (Own : List ℕ → Type 0) (outbound own : List ℕ) (files : List PacketFile) (m : List ℕ) → (IsTouched Own outbound m → ⊥) → IsOfThese Own outbound own files m → ⊥
 these-away Own outbound own files m away these = ⊎_elim (λ (of : Own m). away (inl of)) (λ (of : IsOfPacket outbound own files m). sent-away Own outbound own files m away of) these
 
+abbrev IsFailed : Result (Unit {0}) ScanError → Type 0
+IsFailed (Ok done) = ⊥
+IsFailed (Err why) = Unit {0}
+
+not-both : (result : Result (Unit {0}) ScanError) (why : ScanError) → result ≡ Err why → result ≡ Ok tt → ⊥
+not-both result why is ok = subst IsFailed ok (subst IsFailed (sym is) tt)
+
 cursor-at : (stations : List Station) (i : ℕ) (station : Station) → nth i stations ≡ Some station → nth i (map cursor_of stations) ≡ Some station.base.cursor
 cursor-at [] i station there = absurd (none_some there)
 cursor-at (s ∷ stations) zero station there = ap (λ (t : Station). Some t.base.cursor) (some_same there)
 cursor-at (s ∷ stations) (suc i) station there = cursor-at stations i station there
 
-module _ (stamp : Stamp) (place : Place) (links outbound : List ℕ) (i : ℕ) (d : Disks) (n : ℕ) (ended : Disks) (old new : DiskState) (at : IsStationAt place links i old d)
+module _ (stamp : Stamp) (place : Place) (links outbound : List ℕ) (IsTrue : Files → Type 0) (i : ℕ) (d : Disks) (n : ℕ) (ended : Disks) (old new : DiskState) (at : IsStationAt place links i old d)
     (kept : UnchangedExcept (IsTouched place.is_own outbound) old new) (away : IsTouched place.is_own outbound links → ⊥) (ends : EndsSome n i d ended) (none : HasNoneStaged i ended.staging) where
   abbrev base : Base
   base = at.shows.station.base
@@ -81,6 +88,45 @@ module _ (stamp : Stamp) (place : Place) (links outbound : List ℕ) (i : ℕ) (
   was-left : (c : Files) → RepresentsOrWasLeft place old base c → old.may_leave c ⊎ ShowsStation place links i c d
   was-left c (inl alone) = inr (as-it-was c (same-links-in c (opened-away c (inl alone))) alone.represented)
   was-left c (inr was) = inl was
+
+  -- files are as they were, except the station's own
+  opened-same : (c : Files) → RepresentsOrWasLeft place old base c → (m : List ℕ) → (place.is_own m → ⊥) → IsOnDisk old m → c m ≡ old.seen m
+  opened-same c (inl alone) m off on = alone.elsewhere m off on.0 on.1
+  opened-same c (inr was) m off on = old.on_disk m on.0 on.1 c was
+
+  -- packets in the folder
+  abbrev Keeps : Files → Type 0
+  Keeps c = KeepsPackets IsTrue place links outbound i base.cursor old d c ended
+
+  module _ (file : LinkFile) (shown : ShowsPackets place.is_own outbound (dotted file.system) i base.cursor old d) where
+    abbrev OfNet : Files → Type 0
+    OfNet c = AreOfNet place.is_own outbound (dotted file.system) c ended
+
+    has-cursor : HasCursor d.net i base.cursor
+    has-cursor = cursor-at d.net.stations i at.shows.station at.shows.there
+
+    net-opened : (c : Files) → RepresentsOrWasLeft place old base c → OfNet c
+    net-opened c opens = as-seen place.is_own outbound (dotted file.system) n i base.cursor d ended ends none has-cursor old shown c (λ name is. opened-same c opens (outbound ++ name) is.off.path (shown.path name is))
+
+    net-prepares : (files : List PacketFile) (found : List Left) (is_true : Type 0) → is_true → All (IsLeftOf is_true place.is_own outbound (dotted file.system)) found
+        → (c : Files) → IsPreparing place outbound (dotted file.system) old base found files c → OfNet c
+    net-prepares files found is_true truth each c (before, opens, prepares) =
+        while-preparing place.is_own outbound (dotted file.system) n i base.cursor d ended ends none has-cursor old shown is_true truth found each (place.represents base) files before c
+        (λ name is. opened-same before opens (outbound ++ name) is.off.path (shown.path name is))
+        (λ name is. opened-same before opens (staging_path (outbound ++ name) (dotted file.system)) is.off.staging (shown.staging name is)) prepares
+
+    net-stays : (files : List PacketFile) (found : List Left) (opened : Files) → IsTrue opened → All (IsLeftOf (IsTrue opened) place.is_own outbound (dotted file.system)) found → ((m : List ℕ) → (place.is_own m → ⊥) → opened m ≡ old.seen m)
+        → (Comes : Files → Type 0) (c : Files) → CommitsScan place.is_own outbound (dotted file.system) (IsOnDisk old) (place.represents base) Comes base.cursor found files opened c → All (IsFreeAt outbound c) files → OfNet c
+    net-stays files found opened truth each same Comes c commits free =
+        before-commit place.is_own outbound (dotted file.system) n i base.cursor d ended ends none has-cursor old shown (IsTrue opened) truth found each (place.represents base) Comes files opened c same commits free
+
+  -- the link file that is read is the station's
+  as-read : (file : LinkFile) → LinksOf at.shows.station.links (Ok file) → (c : Files)
+      → (IsListed IsTrue place.is_own old → ShowsPackets place.is_own outbound (dotted file.system) i base.cursor old d → AreOfNet place.is_own outbound (dotted file.system) c ended) → Keeps c
+  as-read file says c keeps other read =
+      let judged = subst (λ (b : List ℕ). LinksOf b (Ok other)) (some_same (sym read.seen ∙ at.shows.of_links)) read.judged in
+      subst (λ (f : LinkFile). IsListed IsTrue place.is_own old → ShowsPackets place.is_own outbound (dotted f.system) i base.cursor old d → AreOfNet place.is_own outbound (dotted f.system) c ended)
+      (one-file at.shows.station.links file other says judged) keeps
 
   -- the steps before the commit
   module _ (own : List ℕ) (files : List PacketFile) (found : List Left) (is_true : Type 0) (each : All (IsLeftOf is_true place.is_own outbound own) found) where
@@ -157,7 +203,7 @@ module _ (stamp : Stamp) (place : Place) (links outbound : List ℕ) (i : ℕ) (
           staging_paths = p.staging_paths;
         }
 
-    module _ (IsTrue : Files → Type 0) (failed : Type 0) (result : Result (Unit {0}) ScanError) (put : IsPutIn place outbound own IsTrue failed old new base files result) where
+    module _ (failed : Type 0) (result : Result (Unit {0}) ScanError) (put : IsPutIn place outbound own IsTrue failed old new base files result) where
       way-away : (c : Files) → IsOnItsWay place outbound own old base put.found files put.opened c → SameAway c
       way-away c (inl prepares) m off named flushed = prepares-away own files put.found (IsTrue put.opened) put.each c prepares m off named flushed
       way-away c (inr commits) m off named flushed =
@@ -166,26 +212,41 @@ module _ (stamp : Stamp) (place : Place) (links outbound : List ℕ) (i : ℕ) (
           ∙ commits.staging_them m off_left
           ∙ put.elsewhere m (λ of. off (inl of))
 
+      committed : (c : Files) → c links ≡ old.seen links → place.represents next c × All (IsWhole outbound own c) files × All HasBytes files → AreAfterScan stamp place links outbound i d ended base c
+      committed c linked comes =
+          after c linked comes.2 comes.0
+          (parted (IsAtPath outbound c) (IsStagingPath outbound own c) i base.cursor (length base.messages) files ended.staging (with_left ended.net i [] next) now-has
+          (some-waits file base.messages base.cursor stamp files answers.right.packets) (recursion_from_All (IsWhole outbound own c) files comes.1))
+
       on-way : (c : Files) → IsOnItsWay place outbound own old base put.found files put.opened c → ShowsStation place links i c d ⊎ AreAfterScan stamp place links outbound i d ended base c
       on-way c (inl prepares) = inl (prepares-shows own files put.found (IsTrue put.opened) put.each c prepares)
       on-way c (inr commits) =
           let linked = same-links-in c (way-away c (inr commits)) in
           elim commits.either [
             | inl stays ↦ inl (as-it-was c linked stays.0)
-            | inr comes ↦
-                inr
-                (after c linked comes.2 comes.0
-                (parted (IsAtPath outbound c) (IsStagingPath outbound own c) i base.cursor (length base.messages) files ended.staging (with_left ended.net i [] next) now-has
-                (some-waits file base.messages base.cursor stamp files answers.right.packets) (recursion_from_All (IsWhole outbound own c) files comes.1)))
+            | inr comes ↦ inr (committed c linked comes)
           ]
 
       may-away : (c : Files) → MayLeave place outbound own old base put.found files put.opened c → SameAway c
       may-away c (inl was) m off named flushed = old.on_disk m named flushed c was
       may-away c (inr on) m off named flushed = way-away c on m off named flushed
 
-      left-by : (c : Files) → MayLeave place outbound own old base put.found files put.opened c → old.may_leave c ⊎ (ShowsStation place links i c d ⊎ AreAfterScan stamp place links outbound i d ended base c)
+      left-by : (c : Files) → MayLeave place outbound own old base put.found files put.opened c
+          → old.may_leave c ⊎ (IsBeforeCommit IsTrue place links outbound i d ended base old c ⊎ AreAfterScan stamp place links outbound i d ended base c)
       left-by c (inl was) = inl was
-      left-by c (inr on) = inr (on-way c on)
+      left-by c (inr (inl prepares)) = inr (inl (record {
+        shows = prepares-shows own files put.found (IsTrue put.opened) put.each c prepares;
+        packets = as-read file says c (λ listed shown. net-prepares file shown files put.found (IsTrue put.opened) (listed put.opened put.elsewhere) put.each c prepares);
+      }))
+      left-by c (inr (inr commits)) =
+          let linked = same-links-in c (way-away c (inr commits)) in
+          elim commits.either [
+            | inl stays ↦ inr (inl (record {
+              shows = as-it-was c linked stays.0;
+              packets = as-read file says c (λ listed shown. net-stays file shown files put.found put.opened (listed put.opened put.elsewhere) put.each put.elsewhere (place.represents next) c commits stays.1);
+            }))
+            | inr comes ↦ inr (inr (committed c linked comes))
+          ]
 
       -- if it ended well
       module _ (sent : AreSentOut (IsTrue put.opened) place.is_own outbound own (place.represents next) base.cursor put.found files put.opened new) where
@@ -218,8 +279,9 @@ module _ (stamp : Stamp) (place : Place) (links outbound : List ℕ) (i : ℕ) (
       sent-out : result ≡ Ok tt → AreSentOut (IsTrue put.opened) place.is_own outbound own (place.represents next) base.cursor put.found files put.opened new
       sent-out ok = subst (λ (r : Result (Unit {0}) ScanError). OnOk r (AreSentOut (IsTrue put.opened) place.is_own outbound own (place.represents next) base.cursor put.found files put.opened new)) ok put.sent
 
-      put-so : ScansAsEvent stamp place links outbound i d ended base old new result
+      put-so : ScansAsEvent stamp place links outbound IsTrue i d ended base old new result
       put-so = record {
+        finished = (n, ends);
         crash = λ c since. left-by c (put.crash.each c since);
         done = λ ok. found-so (sent-out ok);
         on_disk = λ ok. whole (sent-out ok);
@@ -235,8 +297,21 @@ module _ (stamp : Stamp) (place : Place) (links outbound : List ℕ) (i : ℕ) (
   Lasts result = ((fault : Fault) → result ≡ Err (Command (Met fault)) → ⊥) → (c : Files) → new.may_leave c → ShowsStation place links i c d ⊎ AreAfterScan stamp place links outbound i d ended base c
 
   stopped-so : (result : Result (Unit {0}) ScanError) (why : ScanError) (P : Files → Type 0) → result ≡ Err why → LeavesOnly old new P → ((c : Files) → P c → SameAway c)
-      → ((c : Files) → P c → old.may_leave c ⊎ ShowsStation place links i c d) → Lasts result → ScansAsEvent stamp place links outbound i d ended base old new result
-  stopped-so result why P is leaves same shows lasts = grind (arith, ⊎_elim, same-links, still-linked, keeps-elsewhere)
+      → ((c : Files) → P c → old.may_leave c ⊎ ShowsStation place links i c d) → ((c : Files) → P c → Keeps c) → Lasts result → ScansAsEvent stamp place links outbound IsTrue i d ended base old new result
+  stopped-so result why P is leaves same shows keeps lasts = record {
+    finished = (n, ends);
+    crash = λ c since. elim (shows c (leaves.each c since)) [
+      | inl was ↦ inl was
+      | inr still ↦ inr (inl (record { shows = still; packets = keeps c (leaves.each c since) }))
+    ];
+    done = λ ok. absurd (not-both result why is ok);
+    on_disk = λ ok. absurd (not-both result why is ok);
+    lasts = lasts;
+    stopped = λ fault met c since. shows c (leaves.each c since);
+    same_links = same-links;
+    linked = still-linked;
+    elsewhere = record { crash = λ c since. inr (same c (leaves.each c since)); keeps = keeps-elsewhere };
+  }
 
   reported-as : (own : List ℕ) (files : List PacketFile) (failed : Type 0) (before after : Files) (why : CommandError) (result : Result (Unit {0}) ScanError) → ReportsStop failed outbound own files before after why result
       → (cause : ScanError) × (result ≡ Err cause)
@@ -244,33 +319,42 @@ module _ (stamp : Stamp) (place : Place) (links outbound : List ℕ) (i : ℕ) (
   reported-as own files failed before after why result (inr (left, is, cause)) = (Staying left, is)
 
   -- if it stopped while its packets were made
-  stopped-in : (own : List ℕ) (files : List PacketFile) (IsTrue : Files → Type 0) (failed : Type 0) (why : CommandError) (result : Result (Unit {0}) ScanError) → StopsScanIn place outbound own IsTrue failed old new base files why result
-      → ScansAsEvent stamp place links outbound i d ended base old new result
-  stopped-in own files IsTrue failed why result stops =
+  stopped-in : (file : LinkFile) → LinksOf at.shows.station.links (Ok file) → (files : List PacketFile) (failed : Type 0) (why : CommandError) (result : Result (Unit {0}) ScanError)
+      → StopsScanIn place outbound (dotted file.system) IsTrue failed old new base files why result → ScansAsEvent stamp place links outbound IsTrue i d ended base old new result
+  stopped-in file says files failed why result stops =
+      let own = dotted file.system in
       let is_true = IsTrue stops.opened in
       let (cause, is) = reported-as own files failed stops.opened new.seen why result stops.reported in
       stopped-so result cause (λ c. old.may_leave c ⊎ IsPreparing place outbound own old base stops.found files c) is stops.crash (may-prepare-away own files stops.found is_true stops.each) (may-prepare own files stops.found is_true stops.each)
+      (λ c may. as-read file says c (λ listed shown.
+      ⊎_elim (λ (was : old.may_leave c). net-opened file shown c (inr was))
+      (λ (prepares : IsPreparing place outbound own old base stops.found files c). net-prepares file shown files stops.found is_true (listed stops.opened stops.elsewhere) stops.each c prepares) may))
       (λ met c left. inl (prepares-shows own files stops.found is_true stops.each c (stops.lasts c left)))
 
-  made-so : (file : LinkFile) → LinksOf at.shows.station.links (Ok file) → (out out_now : Output) (IsTrue : Files → Type 0) (failed : Type 0) (result : Result (Unit {0}) ScanError) (made : Result (List PacketFile) CommandError)
-      → ScansOn stamp (state_in file base) out out_now made → IsPutAs place outbound (dotted file.system) IsTrue failed old new base (packets_in stamp file base) made result → ScansAsEvent stamp place links outbound i d ended base old new result
-  made-so file says out out_now IsTrue failed result (Ok files) answers put = put-so file says files out out_now answers IsTrue failed result put
-  made-so file says out out_now IsTrue failed result (Err why) answers put = stopped-in (dotted file.system) (packets_in stamp file base) IsTrue failed why result put
+  made-so : (file : LinkFile) → LinksOf at.shows.station.links (Ok file) → (out out_now : Output) (failed : Type 0) (result : Result (Unit {0}) ScanError) (made : Result (List PacketFile) CommandError)
+      → ScansOn stamp (state_in file base) out out_now made → IsPutAs place outbound (dotted file.system) IsTrue failed old new base (packets_in stamp file base) made result → ScansAsEvent stamp place links outbound IsTrue i d ended base old new result
+  made-so file says out out_now failed result (Ok files) answers put = put-so file says files out out_now answers failed result put
+  made-so file says out out_now failed result (Err why) answers put = stopped-in file says (packets_in stamp file base) failed why result put
 
   -- if it did not run
-  not-run : (IsShut Stops : Fault → Type 0) (out out_now : Output) (result : Result (Unit {0}) ScanError) (stopped : Result (Unit {0}) CommandError) → result ≡ as_scan stopped
-      → IsNotRun place IsShut old new out out_now stopped ⊎ IsStopped place Stops old new out out_now stopped → ScansAsEvent stamp place links outbound i d ended base old new result
-  not-run IsShut Stops out out_now result stopped h1 h2 = grind (arith, stopped-so, opened-away, was-left)
+  shut-so : (result : Result (Unit {0}) ScanError) (fault : Fault) → result ≡ Err (Command (Met fault)) → LeavesOnly old new (RepresentsOrWasLeft place old base) → ScansAsEvent stamp place links outbound IsTrue i d ended base old new result
+  shut-so result fault is crash =
+      stopped-so result (Command (Met fault)) (RepresentsOrWasLeft place old base) is crash opened-away was-left (λ c opens file read listed shown. net-opened file shown c opens) (λ met c left. absurd (met fault is))
 
-  ran : (Reads : LinkFile → Type 0) (IsShut Stops : Fault → Type 0) (out out_now : Output) (IsTrue : Files → Type 0) (failed : Type 0) (result : Result (Unit {0}) ScanError) → ReadsLinks Reads links old
-      → ScansIn stamp place outbound IsTrue Reads IsShut Stops failed old new out out_now result → ScansAsEvent stamp place links outbound i d ended base old new result
-  ran Reads IsShut Stops out out_now IsTrue failed result read (inl run) =
+  not-run : (IsShut Stops : Fault → Type 0) (out out_now : Output) (result : Result (Unit {0}) ScanError) (stopped : Result (Unit {0}) CommandError) → result ≡ as_scan stopped
+      → IsNotRun place IsShut old new out out_now stopped ⊎ IsStopped place Stops old new out out_now stopped → ScansAsEvent stamp place links outbound IsTrue i d ended base old new result
+  not-run IsShut Stops out out_now result stopped is (inl not) = shut-so result not.fault (is ∙ ap as_scan not.is) (not.crash base at.shows.represented)
+  not-run IsShut Stops out out_now result stopped is (inr stops) = shut-so result stops.fault (is ∙ ap as_scan stops.is) (stops.represented base at.shows.represented).crash
+
+  ran : (Reads : LinkFile → Type 0) (IsShut Stops : Fault → Type 0) (out out_now : Output) (failed : Type 0) (result : Result (Unit {0}) ScanError) → ReadsLinks Reads links old
+      → ScansIn stamp place outbound IsTrue Reads IsShut Stops failed old new out out_now result → ScansAsEvent stamp place links outbound IsTrue i d ended base old new result
+  ran Reads IsShut Stops out out_now failed result read (inl run) =
       let on = run.runs base at.shows.represented in
       let of_links = read run.file run.read in
-      made-so run.file (subst (λ (b : List ℕ). LinksOf b (Ok run.file)) (some_same (sym of_links.seen ∙ at.shows.of_links)) of_links.judged) out out_now IsTrue failed result on.made on.answer on.put
-  ran Reads IsShut Stops out out_now IsTrue failed result read (inr not) = not-run IsShut Stops out out_now result not.stopped not.is not.not_run
+      made-so run.file (subst (λ (b : List ℕ). LinksOf b (Ok run.file)) (some_same (sym of_links.seen ∙ at.shows.of_links)) of_links.judged) out out_now failed result on.made on.answer on.put
+  ran Reads IsShut Stops out out_now failed result read (inr not) = not-run IsShut Stops out out_now result not.stopped not.is not.not_run
 
 pub scan-does : (stamp : Stamp) (place : Place) (outbound : List ℕ) (IsTrue : Files → Type 0) (Reads : LinkFile → Type 0) (IsShut Stops : Fault → Type 0) (failed : Type 0) (old new : DiskState) (out out_now : Output) (result : Result (Unit {0}) ScanError)
-    → UnchangedExcept (IsTouched place.is_own outbound) old new → ScansIn stamp place outbound IsTrue Reads IsShut Stops failed old new out out_now result → ScansAsMay stamp place outbound Reads old new result
+    → UnchangedExcept (IsTouched place.is_own outbound) old new → ScansIn stamp place outbound IsTrue Reads IsShut Stops failed old new out out_now result → ScansAsMay stamp place outbound IsTrue Reads old new result
 scan-does stamp place outbound IsTrue Reads IsShut Stops failed old new out out_now result kept scans links i d n ended read away at ends none =
-    ran stamp place links outbound i d n ended old new at kept away ends none Reads IsShut Stops out out_now IsTrue failed result read scans
+    ran stamp place links outbound IsTrue i d n ended old new at kept away ends none Reads IsShut Stops out out_now failed result read scans

@@ -23,4 +23,7 @@ pub mod Steps
 pub mod Asked
 pub mod Scanned
 pub mod Sequences
+pub mod PacketNames
+pub mod Folders
+pub mod SequenceExample
 pub mod ShownPackets

@@ -7,7 +7,7 @@ use Rattle.model_steps.specs.declared.stamp.Stamp.{Stamp}
 use Rattle.cmd_store.specs.{Coming.Coming, declared.command_error.CommandError.CommandError}
 use Rattle.station.specs.Place.{Place}
 use Rattle.station_scan.specs.declared.scan_error.ScanError.{ScanError}
-use Rattle.law_stations.specs.{Commands.Command, Commands.Scan, Commands.whole_of, Kinds.IsToss, Nets.with_indexes, Disks.Disks, OnDisks.IsAsBefore, OnDisks.TossesAsEvent, Scans.AreAfterScan, Scans.ScansAsEvent, Asked.GoesOnCut, Asked.GoesOnEnded, Asked.IsKeptWhereShared, Seats.Seat, Seats.RepresentsSeat, Steps.HasEnded, Steps.IsAllOnDisk}
+use Rattle.law_stations.specs.{Commands.Command, Commands.Scan, Commands.whole_of, Kinds.IsToss, Nets.with_indexes, Disks.Disks, OnDisks.IsAsBefore, OnDisks.TossesAsEvent, Scans.AreAfterScan, Scans.KeepsPackets, Scans.ScansAsEvent, Asked.GoesOnCut, Asked.GoesOnEnded, Asked.IsKeptWhereShared, Seats.Seat, Seats.RepresentsSeat, Steps.HasEnded, Steps.IsAllOnDisk}
 
 -- The packets that a toss tossed whole are delivered.
 pub record GoesOnTossed {Kept : Type 0} (place : Kept → Place) (seats : List (Seat Kept)) (seat : Seat Kept) (i : ℕ) (indexes : List ℕ) (answer : Option Fault) (left : List Coming) (d : Disks) (old new : DiskState) : Type 0 where
@@ -28,20 +28,26 @@ IsScan stamp command = command ≡ Scan stamp
 abbrev pub HavePackets : Stamp → Place → List ℕ → List ℕ → ℕ → Disks → Disks → Base → Files → Disks → Type 0
 HavePackets stamp place links outbound i d ended base c next = (after : AreAfterScan stamp place links outbound i d ended base c) × (after.after ≡ next)
 
+-- Before the commit the net goes on as it was, or with the packets of earlier scans under their names. The files have no other
+-- packets.
+pub record GoesOnBefore (IsTrue : Files → Type 0) (place : Place) (links outbound : List ℕ) (i : ℕ) (d ended : Disks) (base : Base) (old : DiskState) (c : Files) (next : Disks) : Type 0 where
+  pub either : (next ≡ d) ⊎ (next ≡ ended)
+  pub packets : KeepsPackets IsTrue place links outbound i base.cursor old d c next
+
 -- If a crash cuts a scan, or if the scan ends well, the net goes on by its command event, and the files have its packets.
 -- If the station is unchanged, as after a fault, the net goes on by no event.
-pub record ScanGoesOn {D Kept : Type 0} (state : D → DiskState) (place : Kept → Place) (seats : List (Seat Kept)) (seat : Seat Kept) (i : ℕ) (stamp : Stamp) (d finished : Disks) (base : Base) (old whole : D) (result : Result (Unit {0}) ScanError) : Type 0 where
+pub record ScanGoesOn {D Kept : Type 0} (state : D → DiskState) (place : Kept → Place) (IsTrue : Files → Type 0) (seats : List (Seat Kept)) (seat : Seat Kept) (i : ℕ) (stamp : Stamp) (d finished : Disks) (base : Base) (old whole : D) (result : Result (Unit {0}) ScanError) : Type 0 where
   pub cut : (begun : D) → (state whole).left_since (state old).moment (state begun).seen → IsAllOnDisk (state begun)
       → (goes : GoesOnCut (IsScan stamp) place seat i d (state old) (state whole) (state begun))
-      × ((goes.command ≡ None) ⊎ HavePackets stamp (place seat.kept) seat.links seat.outbound i d finished base (state begun).seen goes.next)
+      × (GoesOnBefore IsTrue (place seat.kept) seat.links seat.outbound i d finished base (state old) (state begun).seen goes.next ⊎ HavePackets stamp (place seat.kept) seat.links seat.outbound i d finished base (state begun).seen goes.next)
   pub ended : result ≡ Ok tt → IsKeptWhereShared place seats seat i (state whole)
       → (goes : GoesOnEnded (IsScan stamp) place seats seat i d (state old) (state whole))
       × HavePackets stamp (place seat.kept) seat.links seat.outbound i d finished base (state whole).seen goes.next
   pub none : IsAsBefore (place seat.kept) seat.links i d (state whole) → IsKeptWhereShared place seats seat i (state whole)
       → HasEnded place seats seat i None d d (state old) (state whole)
 
-abbrev pub ScansGoOn : {D Kept : Type 0} → (D → DiskState) → (Kept → Place) → Type 0
-ScansGoOn {D} {Kept} state place = (seats : List (Seat Kept)) (seat : Seat Kept) (i : ℕ) (stamp : Stamp) (d ended : Disks) (old whole : D) (result : Result (Unit {0}) ScanError)
+abbrev pub ScansGoOn : {D Kept : Type 0} → (D → DiskState) → (Kept → Place) → (Files → Type 0) → Type 0
+ScansGoOn {D} {Kept} state place IsTrue = (seats : List (Seat Kept)) (seat : Seat Kept) (i : ℕ) (stamp : Stamp) (d ended : Disks) (old whole : D) (result : Result (Unit {0}) ScanError)
     → (represented : RepresentsSeat place seats i seat (state old) d)
-    → ScansAsEvent stamp (place seat.kept) seat.links seat.outbound i d ended represented.at.shows.station.base (state old) (state whole) result
-    → ScanGoesOn state place seats seat i stamp d ended represented.at.shows.station.base old whole result
+    → ScansAsEvent stamp (place seat.kept) seat.links seat.outbound IsTrue i d ended represented.at.shows.station.base (state old) (state whole) result
+    → ScanGoesOn state place IsTrue seats seat i stamp d ended represented.at.shows.station.base old whole result

@@ -8,9 +8,9 @@ use Rattle.disk_atomic.specs.StagingPaths.{dotted, staging_path}
 use Rattle.cmd_status.specs.declared.fault.Fault.{Fault}
 use Rattle.model_steps.specs.{PacketFiles.PacketFile, declared.stamp.Stamp.Stamp}
 use Rattle.cmd_store.specs.declared.command_error.CommandError.TheVariants.{Met}
-use Rattle.station.specs.Place.{Place}
+use Rattle.station.specs.{Links.AreLinks, Place.Place}
 use Rattle.station_scan.specs.{Scanning.IsTouched, declared.scan_error.ScanError.ScanError, declared.scan_error.ScanError.TheVariants.Command}
-use Rattle.law_stations.specs.{OnDisks.IsAsBefore, OnDisks.IsLinkedOn, OnDisks.IsStationAt, OnDisks.LeavesElsewhere, OnDisks.ReadsLinks, OnDisks.ShowsStation, Commands.Scan, Nets.bytes_of, Disks.Disks, Stopping.EndsSome, Stopping.HasNoneStaged, Stopping.PartialEffect, Stopping.staging_of}
+use Rattle.law_stations.specs.{OnDisks.IsAsBefore, OnDisks.IsLinkedOn, OnDisks.IsStationAt, OnDisks.LeavesElsewhere, OnDisks.ReadsLinks, OnDisks.ShowsStation, Commands.Scan, Nets.bytes_of, Disks.Disks, PacketNames.AreOfNet, PacketNames.IsListed, PacketNames.ShowsPackets, Stopping.EndsSome, Stopping.HasNoneStaged, Stopping.PartialEffect, Stopping.staging_of}
 
 -- The packet is whole at its path.
 abbrev pub IsAtPath : List ℕ → Files → PacketFile → Type 0
@@ -47,11 +47,24 @@ pub record IsAfterScan (stamp : Stamp) (place : Place) (links outbound : List �
 abbrev pub with_packets_in : List ℕ → Place → Place
 with_packets_in outbound place = record { represents = place.represents; is_own = λ m. IsTouched place.is_own outbound m }
 
+-- If the list of earlier packets is true, and the folder was as the first net has it, its packets in these files are those of the
+-- other net.
+abbrev pub KeepsPackets : (Files → Type 0) → Place → List ℕ → List ℕ → ℕ → ℕ → DiskState → Disks → Files → Disks → Type 0
+KeepsPackets IsTrue place links outbound i cursor old d c next = (file : LinkFile) → AreLinks old links file → IsListed IsTrue place.is_own old
+    → ShowsPackets place.is_own outbound (dotted file.system) i cursor old d → AreOfNet place.is_own outbound (dotted file.system) c next
+
+-- The station before the commit of a scan. The packets in its folder are of the net in which those of earlier scans have their names.
+pub record IsBeforeCommit (IsTrue : Files → Type 0) (place : Place) (links outbound : List ℕ) (i : ℕ) (d ended : Disks) (base : Base) (old : DiskState) (c : Files) : Type 0 where
+  pub shows : ShowsStation place links i c d
+  pub packets : KeepsPackets IsTrue place links outbound i base.cursor old d c ended
+
 -- A scan does on the disk what its command event may do.
-pub record ScansAsEvent (stamp : Stamp) (place : Place) (links outbound : List ℕ) (i : ℕ) (d ended : Disks) (base : Base) (old new : DiskState) (result : Result (Unit {0}) ScanError) : Type 0 where
-  -- A crash at any time leaves one of three things: what a crash before could have left; the station unchanged; or
-  -- the station and the packets as after the event.
-  pub crash : (c : Files) → new.left_since old.moment c → old.may_leave c ⊎ (ShowsStation place links i c d ⊎ AreAfterScan stamp place links outbound i d ended base c)
+pub record ScansAsEvent (stamp : Stamp) (place : Place) (links outbound : List ℕ) (IsTrue : Files → Type 0) (i : ℕ) (d ended : Disks) (base : Base) (old new : DiskState) (result : Result (Unit {0}) ScanError) : Type 0 where
+  -- The packets of earlier scans can be finished so.
+  pub finished : (n : ℕ) × EndsSome n i d ended
+  -- A crash at any time leaves one of three things: what a crash before could have left; the station unchanged, with earlier
+  -- packets finished in part; or the station and the packets as after the event.
+  pub crash : (c : Files) → new.left_since old.moment c → old.may_leave c ⊎ (IsBeforeCommit IsTrue place links outbound i d ended base old c ⊎ AreAfterScan stamp place links outbound i d ended base c)
   -- If it ends well, they are as after the event, and no packet waits.
   pub done : result ≡ Ok tt → IsAfterScan stamp place links outbound i d ended base new
   -- A crash leaves them so.
@@ -68,10 +81,10 @@ pub record ScansAsEvent (stamp : Stamp) (place : Place) (links outbound : List �
 
 -- At each station of a net that the disk shows in this place. The packets that stopped scans left are
 -- finished as in the event, and the station's link file has no path of a packet.
-abbrev pub ScansAsMay : Stamp → Place → List ℕ → (LinkFile → Type 0) → DiskState → DiskState → Result (Unit {0}) ScanError → Type 0
-ScansAsMay stamp place outbound Reads old new result = (links : List ℕ) (i : ℕ) (d : Disks) (n : ℕ) (ended : Disks) → ReadsLinks Reads links old → (IsTouched place.is_own outbound links → ⊥)
+abbrev pub ScansAsMay : Stamp → Place → List ℕ → (Files → Type 0) → (LinkFile → Type 0) → DiskState → DiskState → Result (Unit {0}) ScanError → Type 0
+ScansAsMay stamp place outbound IsTrue Reads old new result = (links : List ℕ) (i : ℕ) (d : Disks) (n : ℕ) (ended : Disks) → ReadsLinks Reads links old → (IsTouched place.is_own outbound links → ⊥)
     → (at : IsStationAt place links i old d) → EndsSome n i d ended → HasNoneStaged i ended.staging
-    → ScansAsEvent stamp place links outbound i d ended at.shows.station.base old new result
+    → ScansAsEvent stamp place links outbound IsTrue i d ended at.shows.station.base old new result
 
 -- Each station that the disk shows in this place is as before a scan that met a fault, unless it is shut for that.
 abbrev pub StaysWhereScanMet : Place → List ℕ → (Fault → Type 0) → DiskState → DiskState → Result (Unit {0}) ScanError → Type 0

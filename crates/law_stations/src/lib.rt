@@ -16,9 +16,10 @@
 //! `disk_laws`). After any steps of a sequence, the disks show a net of the headline over crashes (`sequence_laws`).
 //!
 //! Begin with specs/. `DiskKinds` says which command events a command may be. `OnDisks` says that a link file and a base
-//! on a disk are those of a station; `Scans` adds the packets of a scan. `ShownPackets` has the packet files of `toss`,
-//! and `Neighbours` other stations on the same disk. Then read `Seats` (stations on disks), `Steps` (the
-//! effect of a step), `Asked` and `Scanned` (which steps commands are) and `Sequences` (the promise).
+//! on a disk are those of a station; `Scans` adds the packets of a scan. `PacketNames` has the folder of packets as the
+//! net has it, `Folders` what leaves it so, and `ShownPackets` the packet files of `toss`. `Neighbours` has other stations
+//! on the same disk. Then read `Seats` (stations on disks), `Steps` (the effect of a step), `Asked` and `Scanned` (which
+//! steps commands are), `Sequences` (the promise) and `SequenceExample`.
 #![tactic(auto)]
 
 mod commands;
@@ -36,7 +37,7 @@ pub use crash_laws::{
     nets_are_sound_over_crashes, new_messages_are_in_order_over_crashes,
     whole_commands_are_among_them,
 };
-pub use disk_laws::{others_stay, shown_packets_are_known};
+pub use disk_laws::{folders_stay, others_stay, shown_packets_are_known};
 pub use laws::{
     command_is_events, commands_are_a_run, nets_are_sound, new_messages_are_in_order,
     tosses_answer_what_stopped_them, tosses_are_what_is_known,
@@ -49,6 +50,6 @@ pub use lone_laws::{
 pub use repair_laws::{repairs_bring_all_everywhere, what_is_mended_is_everywhere};
 pub use scanning::scan_as_may;
 pub use sequence_laws::{
-    commands_continue, new_messages_are_in_order_over_sequences, scans_continue,
-    sequences_are_among, tosses_continue,
+    a_cut_scan_goes_on, commands_continue, new_messages_are_in_order_over_sequences,
+    scans_continue, sequences_are_among, tosses_continue,
 };

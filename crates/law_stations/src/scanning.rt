@@ -36,7 +36,7 @@ pub fn scan_as_may<
 ) -> Scanned<'a, D>
     requires free { AreFree (L.held locks.old.links) (K.held locks.old.base) }
     requires can { Honestly (D.state disk) (P.can_open station (D.state disk)) }
-    ensures does { Honestly (D.state result.disk) (ScansAsMay scan.old.stamp (P.place station) scan.old.outbound.now (P.reads station (D.state disk)) (D.state disk) (D.state result.disk) result.done) }
+    ensures does { Honestly (D.state result.disk) (ScansAsMay scan.old.stamp (P.place station) scan.old.outbound.now (G.is_true scan.new.listing) (P.reads station (D.state disk)) (D.state disk) (D.state result.disk) result.done) }
     ensures stays { let failed = HaveFailed (D.failures disk) (D.failures result.disk) (L.failures locks.old.links) (L.failures locks.new.links) (K.failures locks.old.base) (K.failures locks.new.base) in
         Honestly (D.state result.disk) (StaysWhereScanMet (P.place station) scan.old.outbound.now (P.is_shut station failed (D.state disk) (D.state result.disk)) (D.state disk) (D.state result.disk) result.done) }
 {

@@ -1,7 +1,9 @@
 //! Laws about steps at stations. Each law is the contract of a function that does nothing.
 
-ghost use Rattle.law_stations.specs.{Asked.CommandsGoOn, Scanned.ScansGoOn, Scanned.TossesGoOn, Seats.either, Sequences.HeadlineFromAnySequences, Sequences.SequencesAreAmong};
+ghost use Rattle.model_steps.specs.declared.stamp.Stamp.{Stamp};
+ghost use Rattle.law_stations.specs.{Asked.CommandsGoOn, Scanned.ScansGoOn, Scanned.TossesGoOn, Seats.either, SequenceExample.CutScanGoesOn, Sequences.HeadlineFromAnySequences, Sequences.SequencesAreAmong};
 
+use disk_atomic::ListStaged;
 use disk_io::Disk;
 use station::OpenStation;
 
@@ -24,8 +26,10 @@ pub fn tosses_continue<'a, D: Disk, P: OpenStation<'a, D>, O: OpenStation<'a, D>
 {}
 
 /// Of a scan: whatever crash cuts it, if it ends well, and if it leaves the station as it was.
-pub fn scans_continue<'a, D: Disk, P: OpenStation<'a, D>, O: OpenStation<'a, D>>()
-    ensures { ScansGoOn D.state (either P.place O.place) }
+pub fn scans_continue<'a, D: Disk, P: OpenStation<'a, D>, O: OpenStation<'a, D>, G: ListStaged>(
+    _listing: &G,
+)
+    ensures { ScansGoOn D.state (either P.place O.place) (G.is_true _listing.now) }
 {}
 
 /// The headline over sequences from any state on, for new messages: after any steps the disks show a net in which each
@@ -37,4 +41,9 @@ pub fn new_messages_are_in_order_over_sequences<
     O: OpenStation<'a, D>,
 >()
     ensures { HeadlineFromAnySequences D.state (either P.place O.place) }
+{}
+
+/// Such sequences exist: at one station a crash cuts a scan, and the next scan removes what it left.
+pub fn a_cut_scan_goes_on()
+    ensures { (stamp : Stamp) → CutScanGoesOn stamp }
 {}
