@@ -15,13 +15,20 @@ pub(crate) fn list_folder<'a, W: Sink>(
     progress: &Progress<'_>,
     out: &mut W,
 ) -> Result<Status, Fault<'a>> {
+    if words.ids {
+        // `list_ids` judges each message before it prints, so that it is read once.
+        let mut messages = open_folder_reader(rt, words.base, u64::MAX, None)?;
+        return list_ids(
+            rt.alloc(),
+            asked_area(words),
+            words.base,
+            &mut messages,
+            out,
+        );
+    }
     let mut messages = open_folder_reader(rt, words.base, first, Some(progress))?;
     if words.areas {
         return list_areas_streamed(rt.alloc(), words.base, &mut messages, out);
-    }
-    if words.ids {
-        let area = asked_area(words);
-        return list_ids(rt.alloc(), area, words.base, &mut messages, out);
     }
     let asked = list_query(words, first);
     list_messages(rt.alloc(), &asked, words.base, &mut messages, out)

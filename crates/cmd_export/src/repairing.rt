@@ -18,6 +18,7 @@ use disk_system::{
 };
 use echo_links::LinkFile;
 use echo_toss::{CountedPacket, Resend};
+use model_steps::is_stamp;
 use station::lock_and_read_links;
 use std::alloc::AllocError;
 use std::fs::File;
@@ -120,7 +121,7 @@ fn send_base<W: Sink, E: Sink>(
     errors: &mut E,
 ) -> Status {
     if is_folder(rt, words.place.base) {
-        return match open_folder_reader(rt, words.place.base, repair.asked.first as u64, None) {
+        return match open_folder_reader(rt, words.place.base, judged_from(repair.asked), None) {
             Ok(mut messages) => send_messages(rt, words, repair, links, &mut messages, out, errors),
             Err(fault) => fault.report(errors),
         };
@@ -128,6 +129,16 @@ fn send_base<W: Sink, E: Sink>(
     match load_base(rt, words.place.base) {
         Ok(mut messages) => send_messages(rt, words, repair, links, &mut messages, out, errors),
         Err(fault) => fault.report(errors),
+    }
+}
+
+// The first message that is judged before the packet is begun. Each is judged as it is sent, so it is read once. Only a
+// bad stamp comes after all faults of the messages.
+fn judged_from(asked: Resend<'_>) -> u64 {
+    if is_stamp(asked.stamp) {
+        u64::MAX
+    } else {
+        asked.first as u64
     }
 }
 

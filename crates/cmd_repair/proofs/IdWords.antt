@@ -13,11 +13,11 @@ use Rattle.cmd_repair.specs.Words.{at_byte, at_escape, at_first_digit, at_second
 pub both : (a b : Bool) → (a && b) ≡ true → (a ≡ true) × (b ≡ true)
 both a b h = grind arith
 
-abbrev every : (ℕ → Bool) → ℕ → Bool
+abbrev pub every : (ℕ → Bool) → ℕ → Bool
 every p zero = true
 every p (suc n) = p n && every p n
 
-every-each : (p : ℕ → Bool) (n : ℕ) → every p n ≡ true → (k : ℕ) → k < n → p k ≡ true
+pub every-each : (p : ℕ → Bool) (n : ℕ) → every p n ≡ true → (k : ℕ) → k < n → p k ≡ true
 every-each p zero all k less = absurd (omega (arith, less))
 every-each p (suc n) all k less =
     let parts = both (p n) (every p n) all in
@@ -83,7 +83,7 @@ byte-read s b small state =
       ]
     ]
 
-small_byte : (b : ℕ) → is_text_byte b ≡ true → b < 256
+pub small_byte : (b : ℕ) → is_text_byte b ≡ true → b < 256
 small_byte b h = grind arith
 
 id-read : (s : ℕ) (id : List ℕ) → list_all is_text_byte id ≡ true → IsState s → fold read_on s (escaped id) ≡ fold step s id

@@ -2,8 +2,10 @@ pub mod Searching
 pub mod Cutting
 pub mod Readings
 pub mod IdWords
+pub mod Unescaped
 pub mod RightLists
 pub mod Gatherings
 pub mod Printings
 pub mod Listed
 pub mod Sendings
+pub mod Rests

@@ -3,3 +3,4 @@ pub mod Ids
 pub mod IdList
 pub mod IdsListed
 pub mod Repair
+pub mod Rest

@@ -1,6 +1,12 @@
 //! Laws about lists of ids. Each is the contract of a function that does nothing.
-ghost use Rattle.std.specs.Prelude.{◌≡◌, ◌↔◌, List, None, true, ℕ};
-ghost use Rattle.cmd_repair.specs.{IdList.IsPrintedList, IdList.wrong_line, Ids.IsWordOfId, Words.is_id_word};
+ghost use Rattle.std.specs.Prelude.{◌≡◌, ◌↔◌, List, [], None, Option, Some, true, ℕ};
+ghost use Rattle.base_file.specs.Base.{Base};
+ghost use Rattle.echo_addr.specs.declared.address.Address.{Address};
+ghost use Rattle.echo_links.specs.Links.{LinkFile};
+ghost use Rattle.echo_toss.specs.declared.counting.CountedPacket.{CountedPacket};
+ghost use Rattle.model_steps.specs.declared.stamp.Stamp.{Stamp};
+ghost use Rattle.cmd_repair.specs.{IdList.IsIdList, IdList.IsPrintedList, IdList.wrong_line, Ids.IsWordOfId, Words.is_id_word};
+ghost use Rattle.cmd_repair.specs.{Repair.SendsPacket, Rest.HaveByteIds, Rest.SendsRest};
 ghost use Rattle.cmd_repair.specs.declared.reading.Stage.TheVariants.{Start};
 
 /// A list has no wrong line exactly if its lines are those of an area and its ids, in any order and perhaps twice.
@@ -11,4 +17,13 @@ pub fn right_lists_are_printed_ones()
 /// A word is taken exactly if it is the printed form of an id.
 pub fn words_are_those_of_ids()
     ensures { (word : List ℕ) → (is_id_word word ≡ true) ↔ IsWordOfId word }
+{}
+
+/// What `send_all` sends is the packet of the model: of all messages, or of those that the list does not name by its ids.
+pub fn repairs_send_the_rest()
+    ensures all { (file : LinkFile) (stamp : Stamp) (area : List ℕ) (to : Address) (base : Base) (old new : Option (List ℕ)) (counted : CountedPacket)
+        → SendsPacket file stamp area to 0 None base old new counted → SendsRest file stamp area to [] base old new }
+    ensures listed { (file : LinkFile) (stamp : Stamp) (area : List ℕ) (to : Address) (base : Base) (old new : Option (List ℕ)) (counted : CountedPacket)
+        (list : List ℕ) (words : List (List ℕ)) (is : IsIdList area list words) → HaveByteIds base.messages
+        → SendsPacket file stamp area to 0 (Some words) base old new counted → SendsRest file stamp area to is.right.ids base old new }
 {}

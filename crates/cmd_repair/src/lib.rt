@@ -14,7 +14,7 @@ mod sending;
 mod words;
 
 pub use known::KnownIds;
-pub use laws::{right_lists_are_printed_ones, words_are_those_of_ids};
+pub use laws::{repairs_send_the_rest, right_lists_are_printed_ones, words_are_those_of_ids};
 pub use linking::check_linked;
 pub use listing::list_ids;
 pub use reading::read_ids;
