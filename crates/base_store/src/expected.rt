@@ -55,9 +55,9 @@ fn find_all(
     places: &mut Vec<NumberedDigest>,
 ) -> Result<(), AllocError>
     requires { from + length piece.now / 16 < 2 ^ 64 }
-    ensures kept { (p : Place) → Contains places.old.items p → Contains places.new.items p }
+    ensures kept { (p : NumberedDigest) → Contains places.old.items p → Contains places.new.items p }
     ensures found { OnOk result ((i : ℕ) → i < length piece.now / 16 → are_set low.now high.now (digest_at piece.now i) ≡ true → Contains places.new.items (place_in piece.now from i)) }
-    ensures only { (p : Place) → Contains places.new.items p → Contains places.old.items p ⊎ IsPlaceIn piece.now from p }
+    ensures only { (p : NumberedDigest) → Contains places.new.items p → Contains places.old.items p ⊎ IsPlaceIn piece.now from p }
 {
     'entries: for i in 0..piece.len() / ENTRY {
         let digest = stored_digest(piece, i);
