@@ -1,17 +1,11 @@
 -- The area in link files, and the keys of its messages.
-use Rattle.std.proofs.Common.{◌≡◌, inl, inr, refl, sym, ap, ◌∙◌, ℕ, IsTrue, List, [], ◌∷◌, map, Option, Some, arith, nat_lt, ◌≢◌, ◌⊎◌, ◌++◌}
-use Rattle.std.proofs.lemmas.Bool.{cond-true, cond-false, Decides.nat_tests}
-use Rattle.std.specs.{Prelude.Bool, Prelude.true, Prelude.false, Prelude.bytes_eq, Prelude.is_some, Prelude.◌&&◌, Prelude.not, Prelude.find, List.AllByRecursion, List.list_all, Char.to_ascii_uppercase, Cmp.Lexicographic.bytes_decides}
+use Rattle.std.{proofs.{Common.{◌≡◌, inl, inr, refl, sym, ap, ◌∙◌, ℕ, IsTrue, List, [], ◌∷◌, map, Some, arith, nat_lt, ◌≢◌, ◌⊎◌, ◌++◌}, lemmas.Bool.{cond-true, cond-false, Decides.nat_tests}}, specs.{Prelude.{Bool, true, false, bytes_eq, is_some, ◌&&◌, not, find}, List.{AllByRecursion, list_all}, Char.to_ascii_uppercase, Cmp.Lexicographic.bytes_decides}}
 use Rattle.echo_addr.specs.{declared.address.Address.Address, Address.IsAddress, Address.net_node_of, declared.address.NetNode.NetNode}
-use Rattle.model_graph.specs.Walk.{Among, Different}
-use Rattle.model_graph.proofs.Members.{Among-at, Among-append_cases, Among-append_left, Among-append_right, Among-from_Contains, Contains-from_Among}
-use Rattle.model_run.specs.{Nets.Joined, Run.System, Orderly.tag_of, Tidy.lists, Tidy.Carries, AreaNets.net_of}
-use Rattle.echo_links.specs.Links.{Area, LinkFile, has_area, is_link, links_of, same_address, IsArea, IsFile, upper}
-use Rattle.echo_filed.specs.{declared.key.Key.Key, declared.key.Key.TheVariants.ById, Filed.Filed, Filed.key_of, Sets.entry_set, Sets.same_entry}
+use Rattle.model_graph.{specs.Walk.{Among, Different}, proofs.Members.{Among-at, Among-append_cases, Among-append_left, Among-append_right, Among-from_Contains, Contains-from_Among}}
+use Rattle.model_run.{specs.{Nets.Joined, Run.System, Orderly.tag_of, Tidy.{lists, Carries}, AreaNets.net_of}, proofs.{Lists.{not_both, and-parts, and-from, any-to, any-from, Among-map_to, Among-map_from, yes_or_no, Among-filter_from, Among-filter_to}, TosserPremises.Laws}}
+use Rattle.echo_links.{specs.Links.{Area, LinkFile, has_area, is_link, links_of, same_address, IsArea, IsFile, upper}, proofs.Addresses.same_address_decides}
+use Rattle.echo_filed.{specs.{declared.key.Key.{Key, TheVariants.ById}, Filed.{Filed, key_of}, Sets.{entry_set, same_entry}}, proofs.Orders.{entry_set_is_set, same_entry_decides}}
 use Rattle.echo_text.specs.{Echo.EchoText, Ids.id_of, Lines.is_tag, Lines.is_tag_byte}
-use Rattle.model_run.proofs.{Lists.not_both, Lists.and-parts, Lists.and-from, Lists.any-to, Lists.any-from, Lists.Among-map_to, Lists.Among-map_from, Lists.yes_or_no, Lists.Among-filter_from, Lists.Among-filter_to, TosserPremises.Laws}
-use Rattle.echo_links.proofs.Addresses.{same_address_decides}
-use Rattle.echo_filed.proofs.Orders.{entry_set_is_set, same_entry_decides}
 use Rattle.model_steps.specs.Scanning.{exported, is_seen_by, is_sender, targets}
 use Rattle.model_run.specs.Tidy as files_are
 
@@ -55,13 +49,7 @@ module _ (laws : Laws) (files : List LinkFile) (tag : List ℕ) (joined : files_
   lists-carries a b h = grind (arith, any-from, and-parts, any-to, and-from, link-has_area)
 
   pub joined-net : Joined (net_of files tag)
-  joined-net = record {
-    no_self = joined.no_self;
-    both = joined.both;
-    carriers = lists-carries;
-    apart = joined.apart;
-    connected = joined.connected;
-  }
+  joined-net = grind (arith, lists-carries)
 
   -- the systems of a run with these files
   module _ (ss : List System) (same_files : map (λ s. s.file) ss ≡ files) where
@@ -100,8 +88,7 @@ found [] tag all h = absurd (not_both false h refl)
 found (area ∷ areas) tag all h =
     elim (yes_or_no (bytes_eq area.tag tag)) [
       | inl t ↦ ap is_tag (sym ((bytes_decides area.tag tag).0 t)) ∙ all.0.tag_bytes
-      | inr f ↦ found areas tag all.1
-          (sym (ap (λ (o : Option Area). is_some o) (cond-false (bytes_eq area.tag tag) (Some area) (find (λ (area : Area). bytes_eq area.tag tag) areas) f)) ∙ h)
+      | inr f ↦ grind (arith, cond-false, found areas tag all.1)
     ]
 
 pub upper-same : (file : LinkFile) (tag : List ℕ) → IsFile file → has_area file tag ≡ true → upper tag ≡ tag

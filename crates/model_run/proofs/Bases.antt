@@ -1,19 +1,15 @@
 -- A base, and its history of filed messages.
 pub use Rattle.model_run.specs.States.{IsKept, IsReadable, Kept, RunOk, SystemOk}
-use Rattle.std.proofs.Common.{◌≡◌, ◌≢◌, inl, inr, refl, sym, subst, ap, ◌∙◌, ℕ, zero, suc, ◌≤◌, arith, List, [], ◌∷◌, ◌++◌, length, take, drop, map, Option, Some, None}
-use Rattle.std.specs.{Prelude.true, Prelude.false, Prelude.bytes_eq, Prelude.unwrap_or, Prelude.option_map, Prelude.filter, List.list_any}
-use Rattle.model_graph.specs.Walk.{Among}
-use Rattle.model_graph.proofs.Members.{Among-append_cases}
+use Rattle.std.{proofs.Common.{◌≡◌, ◌≢◌, inl, inr, refl, sym, subst, ap, ◌∙◌, ℕ, zero, suc, ◌≤◌, arith, List, [], ◌∷◌, ◌++◌, length, take, drop, map, Option, Some, None}, specs.{Prelude.{true, false, bytes_eq, unwrap_or, option_map, filter}, List.list_any}}
+use Rattle.model_graph.{specs.Walk.Among, proofs.Members.Among-append_cases}
 use Rattle.echo_text.specs.{Echo.IsEcho, Echo.msgid_of, Refusal.text_refusal, Ids.id_of}
 use Rattle.echo_filed.specs.{declared.key.Key.Key, declared.key.Key.TheVariants.ById, Filed.Filed, Filed.key_of, Filed.key_with, Filed.same_key, Stubs.stub_of, Written.echo_of}
 use Rattle.base_file.specs.Base.{is_known}
-use Rattle.model_steps.specs.{Scanning.scanned, Scanning.packets_of, Scanning.packet_to, Scanning.header_to, Scanning.copy_to, Scanning.recipients, Scanning.goes_to, Posting.has_id, Posting.posted, Posting.posting, Purging.purged, declared.packet.Packet.Packet, declared.draft.Draft.Draft, declared.stamp.Stamp.Stamp, Tossing.received, Tossing.tossing, Tossing.sender_of}
-use Rattle.model_run.specs.{Run.System, Run.filing, Run.nth, Run.Run, Run.fresh, Run.posting_at, Run.tossing_at, Run.scanning_at, Run.purging_at, Run.receiver, Run.changing, Run.taking, Run.after_event, Run.start, Orderly.count, Orderly.FiledUnchanged, Orderly.SameContent, Event.RunEvent, Fits.FilesFit, Keeping.content_of}
+use Rattle.model_steps.{specs.{Scanning.{scanned, packets_of, packet_to, header_to, copy_to, recipients, goes_to}, Posting.{has_id, posted, posting}, Purging.purged, declared.{packet.Packet.Packet, draft.Draft.Draft, stamp.Stamp.Stamp}, Tossing.{received, tossing, sender_of}}, proofs.{Posted.posting_posted, Received.tossing_received}}
+use Rattle.model_run.{specs.{Run.{System, filing, nth, Run, fresh, posting_at, tossing_at, scanning_at, purging_at, receiver, changing, taking, after_event, start}, Orderly.{count, FiledUnchanged, SameContent}, Event.RunEvent, Fits.FilesFit, Keeping.content_of}, proofs.{Lists.{any-to, any-from, and-parts, not_both, Among-filter_from, Among-take, Among-drop, change-all, nth-among, Among-map_from}, EventKinds.{each-kind, scan_of}, TosserPremises.Laws, Targets.some_same}}
 use Rattle.echo_links.specs.Links.{IsFile, LinkFile, upper}
-use Rattle.model_run.proofs.{Lists.any-to, Lists.any-from, Lists.and-parts, Lists.not_both, Lists.Among-filter_from, Lists.Among-take, Lists.Among-drop, Lists.change-all, Lists.nth-among, Lists.Among-map_from, EventKinds.each-kind, EventKinds.scan_of, TosserPremises.Laws, Targets.some_same}
 use Rattle.echo_addr.specs.declared.address.Address.{Address}
 use Rattle.echo_packet.specs.Message.{Message}
-use Rattle.model_steps.proofs.{Posted.posting_posted, Received.tossing_received}
 use Rattle.model_run.proofs.TosserPremises as counts
 
 pub IsKept-itself : (m : Filed) → IsKept m m
@@ -59,15 +55,13 @@ Kept-count key (suc c) [] history k = absurd k
 Kept-count key (suc c) (b ∷ base) [] k = absurd k
 Kept-count key (suc c) (b ∷ base) (h ∷ history) k = grind (arith, Kept-count key c base history k.1)
 
-pub Kept-in : (c : ℕ) (base history : List Filed) → Kept c base history → (h : Filed) → Among h history →
-    (b : Filed) × Among b base × (key_of b ≡ key_of h)
+pub Kept-in : (c : ℕ) (base history : List Filed) → Kept c base history → (h : Filed) → Among h history → (b : Filed) × Among b base × (key_of b ≡ key_of h)
 Kept-in zero base history k m i = (m, (let P : List Filed → Type 0 = λ ms. Among m ms in subst P (sym k) i), refl)
 Kept-in (suc c) [] history k m i = absurd k
 Kept-in (suc c) (b ∷ base) [] k m i = absurd k
 Kept-in (suc c) (b ∷ base) (h ∷ history) k m i = grind (arith, Kept-in c base history k.1 m)
 
-pub Kept-back : (c : ℕ) (base history : List Filed) → Kept c base history → (b : Filed) → Among b base →
-    (h : Filed) × Among h history × IsKept b h
+pub Kept-back : (c : ℕ) (base history : List Filed) → Kept c base history → (b : Filed) → Among b base → (h : Filed) × Among h history × IsKept b h
 Kept-back zero base history k m i = (m, (let P : List Filed → Type 0 = λ ms. Among m ms in subst P k i), IsKept-itself m)
 Kept-back (suc c) [] history k m i = absurd i
 Kept-back (suc c) (b ∷ base) [] k m i = absurd k
@@ -80,8 +74,7 @@ Kept-front (suc c) [] history k m i = absurd k
 Kept-front (suc c) (b ∷ base) [] k m i = absurd k
 Kept-front (suc c) (b ∷ base) (h ∷ history) k m i = grind (arith, Kept-front c base history k.1 m)
 
-pub Kept-at : (c : ℕ) (base history : List Filed) → Kept c base history → (i : ℕ) (b h : Filed) →
-    nth i base ≡ Some b → nth i history ≡ Some h → IsKept b h
+pub Kept-at : (c : ℕ) (base history : List Filed) → Kept c base history → (i : ℕ) (b h : Filed) → nth i base ≡ Some b → nth i history ≡ Some h → IsKept b h
 Kept-at zero base history k i b h e f = grind (arith, some_same, IsKept-itself)
 Kept-at (suc c) [] history k i b h e f = absurd k
 Kept-at (suc c) (b' ∷ base) [] k i b h e f = absurd k
@@ -134,13 +127,7 @@ module _ (laws : Laws) (s : System) (ok : SystemOk s) where
   count_filed : (m : Filed) (key : Key) → ¬ HasKey (key_of m) s.history → count key (s.history ++ m ∷ []) ≤ 1
   count_filed m key fresh =
       elim (counts.Tells-can same_key laws.keys (key_of m) key) [
-        | inl e ↦ omega (
-          arith,
-          count-is key (s.history ++ m ∷ []),
-          counts.count-append key_of same_key key s.history (m ∷ []),
-          counts.count-none key_of same_key laws.keys key s.history (λ n i q. fresh (n, i, q ∙ sym e)),
-          counts.one_if-most (same_key (key_of m) key),
-        )
+        | inl e ↦ grind (arith, count-is, counts.count-append, counts.count-none, counts.one_if-most)
         | inr other ↦ omega (
           arith,
           count-is key (s.history ++ m ∷ []),
@@ -180,8 +167,7 @@ abbrev pub AllMade : Run → Type 0
 AllMade run = (p : Packet) → Among p run.packets → PacketOk p
 
 module _ (laws : Laws) where
-  filed_ok : (s : System) (o : Option Filed) → SystemOk s →
-      ((m : Filed) → o ≡ Some m → IsEcho m.echo × (¬ HasKey (key_of m) s.history)) → SystemOk (filing s o)
+  filed_ok : (s : System) (o : Option Filed) → SystemOk s → ((m : Filed) → o ≡ Some m → IsEcho m.echo × (¬ HasKey (key_of m) s.history)) → SystemOk (filing s o)
   filed_ok s None ok h = ok
   filed_ok s (Some m) ok h = filing-ok laws s ok m (h m refl).0 (h m refl).1
 
@@ -195,8 +181,7 @@ module _ (laws : Laws) where
   pub posting-ok : (tag : List ℕ) (draft : Draft) (serial : ℕ) (stamp : Stamp) (s : System) → SystemOk s → SystemOk (posting_at tag draft serial stamp s)
   posting-ok tag draft serial stamp s ok = filed_ok s (posting s.file s.base tag draft serial stamp) ok (λ m e.
       let done = posting_posted s.file s.base tag draft serial stamp m e in
-      let P : Filed → Type 0 = λ n. IsEcho n.echo × (¬ HasKey (key_of n) s.history) in
-      subst P (sym done.is) (
+      rw done.is (
         laws.posted_text s.file s.base tag draft serial stamp ok.file done.allowed,
         posted-fresh s ok tag draft serial stamp done.allowed.new,
       ))
@@ -239,8 +224,7 @@ module _ (laws : Laws) where
     zone = (let least = fits.address.zone in λ e. absurd (omega (arith, least, e)));
     messages = λ q h.
         let (m, i, e) = Among-map_from (copy_to file address) q (filter (goes_to file address) waiting) h in
-        let P : Message → Type 0 = λ r. (text_refusal r.text ≡ None) × IsEcho (echo_of r.text) in
-        subst P (sym e) (copy-ok file address m fits (valid m (Among-filter_from (goes_to file address) m waiting i).0));
+        rw (← e) at (copy-ok file address m fits (valid m (Among-filter_from (goes_to file address) m waiting i).0));
   }
 
   pub scanned-from : (file : LinkFile) (base : List Filed) (cursor : ℕ) (stamp : Stamp) (p : Packet) → Among p (scanned file base cursor stamp) →
@@ -251,8 +235,7 @@ module _ (laws : Laws) where
   pub scanned-ok : (s : System) → SystemOk s → (stamp : Stamp) (p : Packet) → Among p (scanned s.file s.base s.cursor stamp) → PacketOk p
   scanned-ok s ok stamp p h =
       let (address, i, e) = scanned-from s.file s.base s.cursor stamp p h in
-      let P : Packet → Type 0 = λ q. PacketOk q in
-      subst P (sym e) (packet-ok s.file stamp (drop s.cursor s.base) address ok.file (waiting-valid s ok))
+      rw (← e) at (packet-ok s.file stamp (drop s.cursor s.base) address ok.file (waiting-valid s ok))
 
   pub changing-ok : (run : Run) (i : ℕ) (f : System → System) → ((s : System) → SystemOk s → SystemOk (f s)) → RunOk run → RunOk (changing run i f)
   changing-ok run i f keeps ok = record { systems = change-all (λ s. SystemOk s) i f keeps run.systems ok.systems; packets = ok.packets }

@@ -1,17 +1,12 @@
 -- Beside repairs, what no repair sends keeps the promise, and what is known stays known.
-use Rattle.std.proofs.Common.{◌≡◌, refl, sym, subst, ap, ◌∙◌, ℕ, arith, List, [], ◌∷◌, map, Option, Some, None}
-use Rattle.std.specs.Prelude.{Bool, IsTrue}
+use Rattle.std.{proofs.Common.{◌≡◌, refl, sym, subst, ap, ◌∙◌, ℕ, arith, List, [], ◌∷◌, map, Option, Some, None}, specs.Prelude.{Bool, IsTrue}}
 use Rattle.echo_addr.specs.declared.address.Address.{Address}
-use Rattle.model_graph.specs.{Walk.Among, Walk.Different, Cycle.Polygons}
-use Rattle.model_graph.proofs.Members.{Among-append_left}
+use Rattle.model_graph.{specs.{Walk.{Among, Different}, Cycle.Polygons}, proofs.Members.Among-append_left}
 use Rattle.echo_links.specs.Links.{LinkFile}
 use Rattle.echo_filed.specs.{declared.key.Key.Key, Filed.key_of, Filed.same_key}
 use Rattle.base_file.specs.Base.{is_known}
 use Rattle.model_steps.specs.{declared.stamp.Stamp.Stamp}
-use Rattle.model_run.specs.{Run.System, Run.Run, Run.nth, Orderly.copies, Orderly.count, Orderly.tag_of, Tidy.Joined, Tidy.lists, AnyState.IsNew, AnyState.IsNotLost, AnyState.IsOrderly, States.IsDeliveredOnce, States.RunOk, States.files_of}
-use Rattle.model_run.specs.Repair.{AllSendOther, Besides, RepairEvent, ResendAll, SendsOther, after_repair, after_repairs, resending, rest_packet}
-use Rattle.model_run.proofs.Lists.{nth-among, same_list as Among-in}
-use Rattle.model_run.proofs.{AnyState.in-area, AnyState.new-none, AnyState.not-lost, AnyState.orderly, Areas.address_of, Areas.map-map, Areas.one_name, Bases.HasKey, Bases.count-is, Bases.event-ok, Bases.known-from_history, Bases.known-in_history, HarmLists.among-nth, Histories.Standing, LaterSystems.events-last, Repairs.packet-once, Repairs.resent-ok, StandingRuns.event-stands, StandingRuns.none-stands, StandingRuns.packet-stands, TosserPremises.Laws, WholeRuns.event-files}
+use Rattle.model_run.{specs.{Run.{System, Run, nth}, Orderly.{copies, count, tag_of}, Tidy.{Joined, lists}, AnyState.{IsNew, IsNotLost, IsOrderly}, States.{IsDeliveredOnce, RunOk, files_of}, Repair.{AllSendOther, Besides, RepairEvent, ResendAll, SendsOther, after_repair, after_repairs, resending, rest_packet}}, proofs.{Lists.{nth-among, same_list as Among-in}, AnyState.{in-area, new-none, not-lost, orderly}, Areas.{address_of, map-map, one_name}, Bases.{HasKey, count-is, event-ok, known-from_history, known-in_history}, HarmLists.among-nth, Histories.Standing, LaterSystems.events-last, Repairs.{packet-once, resent-ok}, StandingRuns.{event-stands, none-stands, packet-stands}, TosserPremises.Laws, WholeRuns.event-files}}
 use Rattle.model_run.proofs.TosserPremises as counts
 
 module _ (laws : Laws) (first : Run) (tag : List ℕ) (ok : RunOk first) (delivered : IsDeliveredOnce first) (joined : Joined (files_of first) tag)
@@ -71,14 +66,7 @@ module _ (laws : Laws) (before : Run) (i : ℕ) (name : Address) (key : Key) whe
   resend-knows : (run : Run) → Knows run → (g : List ℕ) (to : Address) (held : List (List ℕ)) (stamp : Stamp) (found : Option System) →
       ((s : System) → found ≡ Some s → Among s run.systems) → Knows (resending run g to held stamp found)
   resend-knows run at g to held stamp None each = at
-  resend-knows run at g to held stamp (Some s) each = record {
-    ok = resent-ok laws run at.ok s (each s refl) g to held stamp;
-    files = at.files;
-    system = at.system;
-    there = at.there;
-    called = at.called;
-    has = at.has;
-  }
+  resend-knows run at g to held stamp (Some s) each = grind (arith, resent-ok)
 
   repair-knows : (run : Run) → Knows run → (event : RepairEvent) → Knows (after_repair run event)
   repair-knows run at (ResendAll j g to held stamp) = resend-knows run at g to held stamp (nth j run.systems) (λ s e. nth-among j s run.systems e)
@@ -116,8 +104,6 @@ still-knows laws before ok differ events s h key is z j at_z =
     }) in
     let names : (run : Run) → map address_of run.systems ≡ map (λ (f : LinkFile). f.system) (files_of run) =
     λ run. sym (map-map (λ (f : LinkFile). f.system) (λ (t : System). t.file) run.systems) in
-    let D : List Address → Type 0 = λ list. Different list in
-    let differ_after = subst D (names before ∙ (ap (λ (fs : List LinkFile). map (λ (f : LinkFile). f.system) fs) (sym known.files) ∙ sym (names after))) differ in
+    let differ_after = rw (names before ∙ (ap (λ (fs : List LinkFile). map (λ (f : LinkFile). f.system) fs) (sym known.files) ∙ sym (names after))) at differ in
     let one : known.system ≡ z = one_name address_of after.systems differ_after known.system z (nth-among i known.system after.systems known.there) j (known.called ∙ sym at_z) in
-    let P : System → Type 0 = λ t. IsTrue (is_known t.base key) in
-    subst P one (known-from_history laws known.system (known.ok.systems known.system (nth-among i known.system after.systems known.there)) key known.has)
+    rw one at (known-from_history laws known.system (known.ok.systems known.system (nth-among i known.system after.systems known.there)) key known.has)

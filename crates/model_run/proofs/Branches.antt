@@ -1,12 +1,10 @@
 -- A posting spreads in branches, one for each link of the poster; links join two branches only at those links.
-use Rattle.std.proofs.Common.{◌≡◌, ◌≢◌, ◌⊎◌, inl, inr, refl, sym, subst, ◌∙◌, ℕ, zero, suc, ◌≤◌, arith, IsTrue, List, [], ◌∷◌, ◌++◌, length}
-use Rattle.std.specs.Prelude.{Bool, true, false}
+use Rattle.std.{proofs.Common.{◌≡◌, ◌≢◌, ◌⊎◌, inl, inr, refl, sym, subst, ◌∙◌, ℕ, zero, suc, ◌≤◌, arith, IsTrue, List, [], ◌∷◌, ◌++◌, length}, specs.Prelude.{Bool, true, false}}
 use Rattle.echo_addr.specs.{declared.address.Address.Address, declared.address.NetNode.NetNode, Address.net_node_of}
 use Rattle.model_graph.specs.Walk.{Among, Simple, Walk}
 use Rattle.echo_filed.specs.Filed.{Filed}
 use Rattle.model_steps.specs.Scanning.{is_seen_by}
-use Rattle.model_run.proofs.Spreads.{Came, IsNear, Spread, came_from, first_seen, from_poster, longer, near-is, one_or_two, source}
-use Rattle.model_run.proofs.Lists.{not_both, yes_or_no}
+use Rattle.model_run.proofs.{Spreads.{Came, IsNear, Spread, came_from, first_seen, from_poster, longer, near-is, one_or_two, source}, Lists.{not_both, yes_or_no}}
 
 -- the second entry of a path, or the system's entry if there is none
 abbrev pub second : NetNode → List NetNode → NetNode
@@ -55,11 +53,10 @@ module _ (linked : Address → Address → Bool) (Carrier : Address → Type 0) 
         elim (source linked Carrier f Holds spread x m h) [
           | inl here ↦ absurd (other here.0)
           | inr c ↦ elim (one_or_two c.from f) [
-            | inl e ↦ (let P : Address → Type 0 = λ a. IsTrue (linked a x) in
-                elim (first_seen linked Carrier f Holds spread known apart x y m (subst P e c.link) h (spread.carriers y k at_y) seen) [
-                  | inl here ↦ absurd (y_other here)
-                  | inr link ↦ inl link
-                ])
+            | inl e ↦ (elim (first_seen linked Carrier f Holds spread known apart x y m (rw e at c.link) h (spread.carriers y k at_y) seen) [
+              | inl here ↦ absurd (y_other here)
+              | inr link ↦ inl link
+            ])
             | inr later ↦ from_branch c later
                 (λ before. seen_side n c.from c.original (let long = longer linked Carrier f Holds spread x m c in omega arith) c.holds later before)
                 (c.seen_from y seen)
@@ -148,5 +145,4 @@ module _ (linked : Address → Address → Bool) (Carrier : Address → Type 0) 
       let close = along_walk a rest c w around (grind arith) in
       let here : close.first ≡ c = apart close.first c (known f close.first close.from_f) (known f c to_c)
       (sym close.is_first ∙ own c close.message to_c close.holds) in
-      let P : Address → Type 0 = λ z. Touches linked a z in
-      none (subst P here close.touches)
+      none (rw here at close.touches)

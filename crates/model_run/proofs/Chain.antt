@@ -1,9 +1,6 @@
 -- The chain 0, 1, 2: it is tidy, and a false SEEN-BY hides its end.
-use Rattle.std.proofs.Common.{◌≡◌, ◌≢◌, ◌⊎◌, inl, inr, refl, sym, subst, ◌∙◌, ℕ, ◌+◌, ◌<◌, arith, IsTrue, List, [], ◌∷◌}
-use Rattle.std.proofs.lemmas.Bool.{ltb-true, lt-ltb, and_parts, and_from, or_cases, eq-eqb, eqb-true}
-use Rattle.std.specs.Prelude.{Bool, ◌&&◌, ◌||◌, ◌==◌, nat_lt}
-use Rattle.model_graph.specs.{Walk.Different, Walk.Simple, Walk.Walk, Walk.Reaches, Cycle.NoCycle}
-use Rattle.model_graph.proofs.{Members.ℕ-can_tell, Members.Connected-from_root, Cycles.Polygons-from_no_cycle}
+use Rattle.std.{proofs.{Common.{◌≡◌, ◌≢◌, ◌⊎◌, inl, inr, refl, sym, ℕ, ◌+◌, ◌<◌, arith, IsTrue, List, [], ◌∷◌}, lemmas.Bool.{ltb-true, lt-ltb, and_parts, and_from, or_cases, eq-eqb, eqb-true}}, specs.Prelude.{Bool, ◌&&◌, ◌||◌, ◌==◌, nat_lt}}
+use Rattle.model_graph.{specs.{Walk.{Different, Simple, Walk, Reaches}, Cycle.NoCycle}, proofs.{Members.{ℕ-can_tell, Connected-from_root}, Cycles.Polygons-from_no_cycle}}
 use Rattle.model_run.specs.Nets.{Net, Tidy}
 
 -- neighbours are linked
@@ -34,15 +31,9 @@ no-cycle first [] cycle = absurd (let long = cycle.long in omega (arith, long))
 no-cycle first (b ∷ []) cycle = absurd (let long = cycle.long in omega (arith, long))
 no-cycle first (b ∷ c ∷ rest) cycle = grind (arith, middle, behind)
   where
-    behind : (rest : List ℕ) (last : ℕ) → Walk linked c rest last → IsTrue (linked last first) → Different (b ∷ c ∷ rest) → b ≡ 1 →
-        IsTrue (linked b c) → ⊥
-    behind [] last walk back different at_b link =
-        let P : ℕ → Type 0 = λ a. IsTrue (linked a first) in
-        let at_c = middle b c first link (subst P (sym walk) back) (λ e. cycle.different.0 (inl (sym e))) in
-        different.0 (inl (at_b ∙ sym at_c))
-    behind (d ∷ more) last walk back different at_b link =
-        let at_c = middle b c d link walk.0 (λ e. different.0 (inr (inl e))) in
-        different.0 (inl (at_b ∙ sym at_c))
+    behind : (rest : List ℕ) (last : ℕ) → Walk linked c rest last → IsTrue (linked last first) → Different (b ∷ c ∷ rest) → b ≡ 1 → IsTrue (linked b c) → ⊥
+    behind [] last walk back different at_b link = grind (arith, middle)
+    behind (d ∷ more) last walk back different at_b link = grind (arith, middle)
 
 pub chain-tidy : Tidy chain
 chain-tidy = record {

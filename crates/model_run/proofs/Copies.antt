@@ -1,16 +1,13 @@
 -- The contents of the packets of a scan.
-use Rattle.std.proofs.Common.{◌≡◌, ◌≢◌, inl, inr, refl, ap, List, [], ◌∷◌, ◌++◌, map, Option, Some, arith}
-use Rattle.std.specs.{Prelude.Bool, Prelude.true, Prelude.false, Prelude.filter, Prelude.not, Prelude.is_none, Prelude.unwrap_or, Prelude.option_map, List.flat_map}
+use Rattle.std.{proofs.Common.{◌≡◌, ◌≢◌, inl, inr, refl, ap, List, [], ◌∷◌, ◌++◌, map, Option, Some, arith}, specs.{Prelude.{Bool, true, false, filter, not, is_none, unwrap_or, option_map}, List.flat_map}}
 use Rattle.echo_addr.specs.{declared.address.Address.Address, declared.address.NetNode.NetNode, Address.net_node_of}
-use Rattle.model_graph.specs.Walk.{Among, Different}
-use Rattle.model_graph.proofs.Members.{Among-at}
+use Rattle.model_graph.{specs.Walk.{Among, Different}, proofs.Members.Among-at}
 use Rattle.echo_packet.specs.Message.{Message}
 use Rattle.echo_text.specs.{Echo.IsEcho, Refusal.text_refusal}
 use Rattle.model_steps.specs.{Scanning.packet_to, Scanning.header_to, Scanning.copy_to, Scanning.exported, Scanning.goes_to, Scanning.targets, Scanning.recipients, declared.stamp.Stamp.Stamp, Tossing.received}
 use Rattle.echo_links.specs.Links.{LinkFile, is_link, links_of, same_address, IsFile}
 use Rattle.echo_filed.specs.Filed.{Filed, key_of}
-use Rattle.model_run.specs.{Run.destination, Orderly.copies, Keeping.content_of}
-use Rattle.model_run.proofs.{Lists.not_both, Lists.yes_or_no, Lists.and-parts, Lists.and-from, Lists.any-to, Lists.any-from, Lists.filter-yes, Lists.Among-filter_from, Lists.Among-filter_to, Lists.Among-flat_map_to, TosserPremises.Laws}
+use Rattle.model_run.{specs.{Run.destination, Orderly.copies, Keeping.content_of}, proofs.{Lists.{not_both, yes_or_no, and-parts, and-from, any-to, any-from, filter-yes, Among-filter_from, Among-filter_to, Among-flat_map_to}, TosserPremises.Laws}}
 
 -- the copy of a message, as its receiver files it
 unfoldable pub copied : LinkFile → Filed → Filed

@@ -1,14 +1,12 @@
 -- An invariant of each single system holds in every run.
-use Rattle.std.proofs.Common.{refl, ℕ, List, [], ◌∷◌, length, Option, arith}
-use Rattle.std.specs.Prelude.{take}
+use Rattle.std.{proofs.Common.{refl, ℕ, List, [], ◌∷◌, length, Option, arith}, specs.Prelude.take}
 use Rattle.echo_addr.specs.declared.address.Address.{Address}
 use Rattle.model_graph.specs.Walk.{Among}
 use Rattle.echo_packet.specs.Message.{Message}
 use Rattle.model_steps.specs.{declared.packet.Packet.Packet, Posting.posting, Tossing.sender_of, Tossing.tossing}
 use Rattle.echo_links.specs.Links.{LinkFile}
 use Rattle.echo_filed.specs.Filed.{Filed}
-use Rattle.model_run.specs.{Run.System, Run.Run, Run.after_event, Run.filing, Run.fresh, Run.posting_at, Run.purging_at, Run.receiver, Run.run_of, Run.scanning_at, Run.start, Run.taking, Run.tossing_at, Event.RunEvent}
-use Rattle.model_run.proofs.{EventKinds.each-kind, Lists.change-all, Lists.Among-map_from, Bases.Kept, Bases.Kept-filed, Bases.Kept-purged, Bases.Kept-scanned, WholeRuns.along, TosserPremises.Laws}
+use Rattle.model_run.{specs.{Run.{System, Run, after_event, filing, fresh, posting_at, purging_at, receiver, run_of, scanning_at, start, taking, tossing_at}, Event.RunEvent}, proofs.{EventKinds.each-kind, Lists.{change-all, Among-map_from}, Bases.{Kept, Kept-filed, Kept-purged, Kept-scanned}, WholeRuns.along, TosserPremises.Laws}}
 
 module _ (P : System → Type 0) (filed : (s : System) (o : Option Filed) → P s → P (filing s o))
     (scans : (s : System) → P s → P (scanning_at s)) (purges : (s : System) → P s → P (purging_at s)) where
@@ -48,7 +46,6 @@ AllKept run = (s : System) → Among s run.systems → Kept s.cursor s.base s.hi
 pub event-kept : Laws → (run : Run) (event : RunEvent) → AllKept run → AllKept (after_event run event)
 event-kept laws = event-each IsBaseKept filing-kept (λ s k. Kept-scanned s.cursor s.base s.history k) (λ s k. Kept-purged laws s.cursor s.base s.history k)
 
-pub run-kept : Laws → (files : List LinkFile) (events : List RunEvent) → (s : System) → Among s (run_of files events).systems →
-    Kept s.cursor s.base s.history
+pub run-kept : Laws → (files : List LinkFile) (events : List RunEvent) → (s : System) → Among s (run_of files events).systems → Kept s.cursor s.base s.history
 run-kept laws = run-each IsBaseKept filing-kept (λ s k. Kept-scanned s.cursor s.base s.history k) (λ s k. Kept-purged laws s.cursor s.base s.history k)
     (λ file. refl)

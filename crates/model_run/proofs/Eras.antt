@@ -1,12 +1,7 @@
 -- Every run by the rules is orderly.
-use Rattle.std.proofs.Common.{◌≡◌, ◌≢◌, inl, inr, refl, sym, subst, ap, ◌∙◌, IsTrue, List, [], ◌∷◌, map, None, arith}
-use Rattle.std.specs.Prelude.{Bool, true, false}
-use Rattle.model_graph.specs.{Walk.Among, Walk.Reaches, Beyond.IsWay}
-use Rattle.model_graph.proofs.{Members.CanTell, Cycles.along_ways}
-use Rattle.model_run.specs.{Events.Filed, Events.Event, Events.Posts, Events.Exports, Events.Comes, Events.filed, Events.copies, Events.Has, Nets.Net, Nets.Tidy}
-use Rattle.model_run.specs.Rules.{Always, IsPossible, Kept, Rule, filing, keeping, sending, telling, keys}
-use Rattle.model_run.specs.RulesOrderly.{Compares, IsSettled, Orderly, place, goal}
-use Rattle.model_run.proofs.{Targets.simple, Targets.parted, Targets.none_some, Targets.Invariant, Targets.view_of, Lists.Among-map_from, Steps.Has-cases, Steps.posting-keeps, Steps.arrival-keeps, Steps.coming-keeps, Steps.exporting-keeps}
+use Rattle.std.{proofs.Common.{◌≡◌, ◌≢◌, inl, inr, refl, sym, subst, ap, ◌∙◌, IsTrue, List, [], ◌∷◌, map, None, arith}, specs.Prelude.{Bool, true, false}}
+use Rattle.model_graph.{specs.{Walk.{Among, Reaches}, Beyond.IsWay}, proofs.{Members.CanTell, Cycles.along_ways}}
+use Rattle.model_run.{specs.{Events.{Filed, Event, Posts, Exports, Comes, filed, copies, Has}, Nets.{Net, Tidy}, Rules.{Always, IsPossible, Kept, Rule, filing, keeping, sending, telling, keys}, RulesOrderly.{Compares, IsSettled, Orderly, place, goal}}, proofs.{Targets.{simple, parted, none_some, Invariant, view_of}, Lists.Among-map_from, Steps.{Has-cases, posting-keeps, arrival-keeps, coming-keeps, exporting-keeps}}}
 
 module _ {A N K C : Type 0} (net : Net A N) (Same : C → C → Type 0) where
   -- a run by the rules
@@ -61,9 +56,8 @@ module _ {A N K C : Type 0} (can : CanTell A) (can_keys : CanTell K) (net : Net 
         let (c, i, e) = Among-map_from goal (place m) (copies run) sent_back in
         let sent = inv.sent c i in
         let one_poster : sent.poster ≡ m = grind arith in
-        let P : Filed A N K C → Type 0 = λ p. IsWay net.linked p.at c.to c.from in
         let Q : A → Type 0 = λ a. IsWay net.linked m.at a c.from in
-        let way : Q m.at = subst Q (sym (ap (λ (p : A × K). p.0) e)) (subst P one_poster sent.parent.way) in
+        let way : Q m.at = subst Q (sym (ap (λ (p : A × K). p.0) e)) (rw one_poster at sent.parent.way) in
         elim (way.passed [] refl) [
           | inl q ↦ (let R : A → Type 0 = λ a. IsTrue (net.linked m.at a) in tidy.joined.no_self m.at (subst R q way.link))
           | inr t ↦ t
@@ -76,8 +70,7 @@ module _ {A N K C : Type 0} (can : CanTell A) (can_keys : CanTell K) (net : Net 
           along_ways can net.linked (simple can net tidy) (parted can net tidy) p.at (λ y. Has y p.text.key (filed run))
           (p, at_p, refl, refl) next x (tidy.joined.connected x p.at at_x (inv.good p at_p).carrier)
         where
-          next : (y u : A) → y ≢ p.at → Reaches net.linked y p.at → IsWay net.linked p.at y u → Has u p.text.key (filed run) →
-              Has y p.text.key (filed run)
+          next : (y u : A) → y ≢ p.at → Reaches net.linked y p.at → IsWay net.linked p.at y u → Has u p.text.key (filed run) → Has y p.text.key (filed run)
           next y u other reaches way has =
               let (m, i, at_u, key) = has in
               let P : A → Type 0 = λ a. IsTrue (net.linked a y) in
@@ -93,8 +86,7 @@ module _ {A N K C : Type 0} (can : CanTell A) (can_keys : CanTell K) (net : Net 
           let (m, i, at, key) = arrives x at_x in
           let good = inv.good m i in
           let one_poster : good.poster ≡ p = grind arith in
-          let P : Filed A N K C → Type 0 = λ q. Same m.text.content q.text.content in
-          (m, i, at, key, subst P one_poster good.posted.same_content)
+          (m, i, at, key, rw one_poster at good.posted.same_content)
 
     orderly : Orderly net Same run
     orderly = record {
@@ -104,6 +96,5 @@ module _ {A N K C : Type 0} (can : CanTell A) (can_keys : CanTell K) (net : Net 
       all_filed = λ settled p at_p own. all-filed settled p at_p own;
     }
 
-  pub every_run-orderly : (run : List (Event A N K C)) → Always (IsPossible net) run → ((rule : Rule) → Kept net Same run rule) →
-      Orderly net Same run
+  pub every_run-orderly : (run : List (Event A N K C)) → Always (IsPossible net) run → ((rule : Rule) → Kept net Same run rule) → Orderly net Same run
   every_run-orderly run possible kept = orderly run (always run (possible, kept))

@@ -1,16 +1,10 @@
 -- Lists of exports, and the packets of a run as its exports.
-use Rattle.std.proofs.Common.{◌≡◌, ◌≢◌, inl, inr, refl, sym, ap, ◌∙◌, ℕ, ◌+◌, ◌≤◌, arith, List, [], ◌∷◌, ◌++◌, map, Option, Some, None, subst, length, take, drop, ◌<◌}
-use Rattle.std.proofs.lemmas.{List.append_assoc, List.append-nil, List.map-append, List.take-append-drop, List.take-append-le, List.take_all, Bool.eq-eqb, Bool.ne_eqb, List.Elements.filter-append}
-use Rattle.std.specs.Prelude.{Bool, true, false, filter, if◌then◌else◌}
+use Rattle.std.{proofs.{Common.{◌≡◌, ◌≢◌, inl, inr, refl, sym, ap, ◌∙◌, ℕ, ◌+◌, ◌≤◌, arith, List, [], ◌∷◌, ◌++◌, map, Option, Some, None, subst, length, take, drop, ◌<◌}, lemmas.{List.{append_assoc, append-nil, map-append, take-append-drop, take-append-le, take_all, Elements.filter-append}, Bool.{eq-eqb, ne_eqb}}}, specs.Prelude.{Bool, true, false, filter, if◌then◌else◌}}
 use Rattle.echo_addr.specs.declared.address.Address.{Address}
 use Rattle.echo_filed.specs.{declared.key.Key.Key, Filed.Filed, Filed.key_of, Filed.same_key}
 use Rattle.model_steps.specs.{declared.packet.Packet.Packet, declared.stamp.Stamp.Stamp, Scanning.scanned, Scanning.copy_to, Scanning.goes_to, Scanning.targets, Stamps.is_stamp, Tossing.sender_of}
-use Rattle.model_run.specs.{Event.RunEvent, Event.Posting, Event.Scanning, Event.Delivery, Event.PartDelivery, Event.Purging, Orderly.count, Orderly.sent_count, Orderly.copies, Orderly.origin, Fits.FilesFit, Exports.Export, Exports.event_exports, Exports.export_of, Exports.exports_after, Exports.scan_exports, Exports.sent_by, Exports.IsSentCopy, Exports.exports}
-use Rattle.model_run.specs.Run.{System, Run, after_event, after_events, change, delivery, nth, part_delivery, scanning, scanning_at, destination, filing, fresh, purging_at, tossing_at, run_of, start, taking}
-use Rattle.model_run.proofs.Lists.{yes_or_no, filter-all, filter-no, filter-none, filter-yes, Among-map_from, any-from, any-to, Among-filter_from, Among-filter_to, Among-drop, nth-among, nth-change, nth-changed, Among-map_to}
-use Rattle.model_run.proofs.{Bases.Kept-cursor, Bases.Kept-length, Bases.SystemOk, Bases.count-is, Bases.RunOk, Bases.event-ok, Bases.start-ok, TosserPremises.Laws, ScanPackets.copy-packet, ScanPackets.scanned-copy, ScanPackets.scanned-count, ScanPackets.scanned-origin}
-use Rattle.model_graph.specs.Walk.{Among}
-use Rattle.model_graph.proofs.Members.{Among-append_cases, Among-append_left, Among-append_right}
+use Rattle.model_run.{specs.{Event.{RunEvent, Posting, Scanning, Delivery, PartDelivery, Purging}, Orderly.{count, sent_count, copies, origin}, Fits.FilesFit, Exports.{Export, event_exports, export_of, exports_after, scan_exports, sent_by, IsSentCopy, exports}, Run.{System, Run, after_event, after_events, change, delivery, nth, part_delivery, scanning, scanning_at, destination, filing, fresh, purging_at, tossing_at, run_of, start, taking}}, proofs.{Lists.{yes_or_no, filter-all, filter-no, filter-none, filter-yes, Among-map_from, any-from, any-to, Among-filter_from, Among-filter_to, Among-drop, nth-among, nth-change, nth-changed, Among-map_to}, Bases.{Kept-cursor, Kept-length, SystemOk, count-is, RunOk, event-ok, start-ok}, TosserPremises.Laws, ScanPackets.{copy-packet, scanned-copy, scanned-count, scanned-origin}}}
+use Rattle.model_graph.{specs.Walk.Among, proofs.Members.{Among-append_cases, Among-append_left, Among-append_right}}
 use Rattle.echo_packet.specs.Message.{Message}
 use Rattle.echo_links.specs.Links.{LinkFile, same_address}
 use Rattle.model_run.proofs.TosserPremises as counts
@@ -107,8 +101,7 @@ purging-done s = record { file = refl; done = refl }
 pub record MadeOf (file : LinkFile) (done : List Filed) (sent : List Packet) : Type 0 where
   pub counts : (a : Address) (k : Key) → sent_count a k sent ≡ count k (filter (goes_to file a) done)
   pub origins : (p : Packet) → Among p sent → origin p ≡ file.system
-  pub copy : (p : Packet) → Among p sent → (c : Filed) → Among c (copies p) →
-      (m : Filed) × Among m done × IsSentCopy file m (destination p) c
+  pub copy : (p : Packet) → Among p sent → (c : Filed) → Among c (copies p) → (m : Filed) × Among m done × IsSentCopy file m (destination p) c
   pub copies_for : (m : Filed) → Among m done → (a : Address) → goes_to file a m ≡ true →
       (p : Packet) × Among p sent × (destination p ≡ a) × Among (copy_to file a m) p.messages
 
@@ -165,13 +158,11 @@ module _ (laws : Laws) where
           ];
           copy = λ p h c i. elim (Among-append_cases p sent new h) [
             | inl old ↦ (let (m, j, is) = made.copy p old c i in
-                let P : List Filed → Type 0 = λ ms. Among m ms in
-                (m, stays m (subst P (take-append-drop s.cursor s.history) (Among-append_left m (take s.cursor s.history) (drop s.cursor s.history) j)), is))
+                (m, stays m (rw (take-append-drop s.cursor s.history) at (Among-append_left m (take s.cursor s.history) (drop s.cursor s.history) j)), is))
             | inr now ↦ (let (m, j, is) = scanned-copy laws s ok stamp p now c i in (m, stays m (Among-drop s.cursor m s.history j), is))
           ];
           copies_for = λ m h a goes.
-              let P : List Filed → Type 0 = λ ms. Among m ms in
-              let parts = subst P (all-done ∙ sym (take-append-drop s.cursor s.history)) h in
+              let parts = rw (all-done ∙ sym (take-append-drop s.cursor s.history)) at h in
               elim (Among-append_cases m (take s.cursor s.history) (drop s.cursor s.history) parts) [
                 | inl old ↦ (let (p, j, to, there) = made.copies_for m old a goes in (p, Among-append_left p sent new j, to, there))
                 | inr now ↦ (let (p, j, to, there) = copy-packet laws s ok stamp m now a goes in (p, Among-append_right p sent new j, to, there))
@@ -244,8 +235,7 @@ module _ (laws : Laws) where
     made = λ j z at. elim (nth-change i j f z run.systems at) [
       | inl other ↦ logged.made j z other.1
       | inr here ↦ (let (x, at_x, is) = here.1 in
-          let P : System → Type 0 = λ t. Made t (sent_by j all) in
-          subst P (sym is) (made-same x (f x) (sent_by j all) (keeps x (within x (ok.systems x (nth-among j x run.systems at_x)))) (logged.made j x at_x)))
+          rw (← is) at (made-same x (f x) (sent_by j all) (keeps x (within x (ok.systems x (nth-among j x run.systems at_x)))) (logged.made j x at_x)))
     ];
     maker = λ e h. maker-changed run e (logged.maker e h) i f;
     one_scan = logged.one_scan;
@@ -282,10 +272,8 @@ module _ (laws : Laws) where
         (c d : Filed) → Among c (copies e.packet) → Among d (copies f.packet) → key_of c ≢ key_of d
     new-keys e f h g same c d at_c at_d q =
         let (p, j, is) = Among-map_from (export_of n i) f made_packets g in
-        let P : Packet → Type 0 = λ r. Among d (copies r) in
-        let (o, l, sent) = scanned-copy laws s ok_s stamp p j d (subst P (ap (λ (x : Export). x.packet) is) at_d) in
-        let Q : ℕ → Type 0 = λ x. Among e.packet (sent_by x all) in
-        let mine = subst Q (same ∙ ap (λ (x : Export). x.system) is) (sent-by_own e all h) in
+        let (o, l, sent) = scanned-copy laws s ok_s stamp p j d (rw (ap (λ (x : Export). x.packet) is) at at_d) in
+        let mine = rw (same ∙ ap (λ (x : Export). x.system) is) at (sent-by_own e all h) in
         let (m, k, old) = (logged.made i s at_s).copy e.packet mine c at_c in
         apart laws s ok_s m o k l (sym old.key ∙ (q ∙ sent.key))
 
@@ -305,8 +293,7 @@ module _ (laws : Laws) where
       maker = λ e h. maker-changed run e (elim (Among-append_cases e all new h) [
         | inl old ↦ logged.maker e old
         | inr now ↦ (let (p, j, is) = Among-map_from (export_of n i) e made_packets now in
-            let P : ℕ → Type 0 = λ l. nth l run.systems ≡ Some s in
-            (s, subst P (sym (ap (λ (x : Export). x.system) is)) at_s))
+            (s, rw (← (ap (λ (x : Export). x.system) is)) at at_s))
       ]) i scanning_at;
       one_scan = λ e f h g same c d at_c at_d q. elim (Among-append_cases e all new h) [
         | inl old ↦ elim (Among-append_cases f all new g) [
@@ -361,8 +348,7 @@ module _ (laws : Laws) where
 
   events-logged : (events : List RunEvent) (run : Run) (n : ℕ) (all : List Export) → RunOk run → Logged run n all →
       (m : ℕ) × Logged (after_events run events) m (all ++ exports_after run n events)
-  events-logged [] run n all ok logged =
-      (n, (let P : List Export → Type 0 = λ es. Logged run n es in subst P (sym (append-nil all)) logged))
+  events-logged [] run n all ok logged = (n, (let P : List Export → Type 0 = λ es. Logged run n es in subst P (sym (append-nil all)) logged))
   events-logged (event ∷ later) run n all ok logged =
       let next = event-logged run n all ok logged event in
       let (m, at_end) = events-logged later (after_event run event) (n + 1) (all ++ event_exports run n event) (event-ok laws run event ok) next in
@@ -378,8 +364,7 @@ module _ (laws : Laws) where
     one_scan = λ e f h g same c d at_c at_d q. absurd h;
   }
 
-  pub run-logged : (files : List LinkFile) → FilesFit files → (events : List RunEvent) →
-      (m : ℕ) × Logged (run_of files events) m (exports files events)
+  pub run-logged : (files : List LinkFile) → FilesFit files → (events : List RunEvent) → (m : ℕ) × Logged (run_of files events) m (exports files events)
   run-logged files fit events = events-logged events (start files) 0 [] (start-ok laws files fit) (start-logged files)
 
   -- the maker of an export, and the exported messages

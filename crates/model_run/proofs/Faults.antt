@@ -1,16 +1,10 @@
 -- If no carrier's posting does harm, the area is tidy. So an area is tidy, or some posting does harm.
-use Rattle.std.proofs.Common.{◌≡◌, ◌≢◌, ◌⊎◌, inl, inr, sym, subst, ap, ◌∙◌, ℕ, zero, suc, ◌<◌, arith, IsTrue, List, ◌∷◌, length, Some, []}
-use Rattle.std.proofs.lemmas.Bool.{cases_eq}
-use Rattle.std.specs.{Prelude.Bool, Prelude.true, List.list_any}
+use Rattle.std.{proofs.{Common.{◌≡◌, ◌≢◌, ◌⊎◌, inl, inr, sym, subst, ap, ◌∙◌, ℕ, zero, suc, ◌<◌, arith, IsTrue, List, ◌∷◌, length, Some, []}, lemmas.Bool.cases_eq}, specs.{Prelude.{Bool, true}, List.list_any}}
 use Rattle.echo_addr.specs.{declared.address.Address.Address, Address.net_node_of}
-use Rattle.model_graph.specs.{Walk.Among, Walk.Connected, Walk.Reaches, Walk.Simple, Beyond.Parted, Cycle.Polygons, Cycle.IsCycle, Loops.HasUnlinked}
-use Rattle.model_graph.proofs.{Cycles.Polygons-from_Parted, Members.Among-cases}
+use Rattle.model_graph.{specs.{Walk.{Among, Connected, Reaches, Simple}, Beyond.Parted, Cycle.{Polygons, IsCycle}, Loops.HasUnlinked}, proofs.{Cycles.Polygons-from_Parted, Members.Among-cases}}
 use Rattle.echo_links.specs.Links.{LinkFile, has_area}
 use Rattle.echo_filed.specs.Filed.{Filed}
-use Rattle.model_run.specs.{Grave.AllAreCarriers, Grave.AreTakenForOne, Grave.AreTwins, Grave.HaveOwnAddresses, Grave.GraveFault, Grave.SelfLink, Grave.OneSided, Grave.SameNetNode, Grave.Apart, Grave.Loop, Event.RunEvent, Run.nth, Run.run_of, Run.Run, Run.System, Tidy.Carries, Tidy.lists, Tidy.Tidy, Harms.Harm, Harms.IsHarmed, LawsOfRuns.LawsOfRuns, Postings.ComesToRest, Postings.trial_posting, Postings.post_and_scan, Orderly.Orderly}
-use Rattle.model_run.proofs.{Lists.any-to, Lists.Among-map_to, Lists.not_both, Lists.nth-cases, Lists.yes_or_no, Branches.Touches, Branches.closed-by, Branches.no_way_around, HarmLists.among-nth, HarmLists.nth-index, Places.carrier-file, Places.lister-carries, Targets.some_same, Targets.none_some, Resting.runs-settle, HarmSteps.run-files}
-use Rattle.model_run.proofs.Holders.{Holds, Unharmed, harm-or_none, spread, listed-sent}
-use Rattle.model_run.proofs.Spreads.{IsNear, Spread, answered, from_poster, no_kite, not_hidden, one_or_two, reached}
+use Rattle.model_run.{specs.{Grave.{AllAreCarriers, AreTakenForOne, AreTwins, HaveOwnAddresses, GraveFault, SelfLink, OneSided, SameNetNode, Apart, Loop}, Event.RunEvent, Run.{nth, run_of, Run, System}, Tidy.{Carries, lists, Tidy}, Harms.{Harm, IsHarmed}, LawsOfRuns.LawsOfRuns, Postings.{ComesToRest, trial_posting, post_and_scan}, Orderly.Orderly}, proofs.{Lists.{any-to, Among-map_to, not_both, nth-cases, yes_or_no}, Branches.{Touches, closed-by, no_way_around}, HarmLists.{among-nth, nth-index}, Places.{carrier-file, lister-carries}, Targets.{some_same, none_some}, Resting.runs-settle, HarmSteps.run-files, Holders.{Holds, Unharmed, harm-or_none, spread, listed-sent}, Spreads.{IsNear, Spread, answered, from_poster, no_kite, not_hidden, one_or_two, reached}}}
 
 module _ (files : List LinkFile) (known : LawsOfRuns files) (tag : List ℕ) (one_file : HaveOwnAddresses files) (all_known : AllAreCarriers files tag)
     (moves : ℕ → List RunEvent) (rests : (i : ℕ) → ComesToRest files tag i (moves i)) where
@@ -43,8 +37,7 @@ module _ (files : List LinkFile) (known : LawsOfRuns files) (tag : List ℕ) (on
         a (lister-carries files tag a b link) link
 
     pub connected : Connected (Carries files tag) linked
-    connected a b at_a at_b =
-        of_carriers (λ f. Reaches linked f b) (λ f Has spreads. reached linked (Carries files tag) f Has spreads b at_b) a at_a
+    connected a b at_a at_b = of_carriers (λ f. Reaches linked f b) (λ f Has spreads. reached linked (Carries files tag) f Has spreads b at_b) a at_a
 
     pub no_self : (a : Address) → ¬ IsTrue (linked a a)
     no_self a link =
@@ -132,8 +125,8 @@ module _ (files : List LinkFile) (known : LawsOfRuns files) (tag : List ℕ) (on
 
 -- Each grave fault does harm, and an area without one is tidy.
 
-pub harm-breaks : (run : Run) (tag : List ℕ) → Harm run tag → ¬ Orderly run tag
-harm-breaks run tag harm orderly =
+pub harm_breaks : (run : Run) (tag : List ℕ) → Harm run tag → ¬ Orderly run tag
+harm_breaks run tag harm orderly =
     elim harm [
       | inl h ↦ omega (arith, h.again, orderly.sent_once h.system h.there h.carries h.key h.of_area)
       | inr other ↦ elim other [
@@ -217,17 +210,11 @@ module _ (files : List LinkFile) (known : LawsOfRuns files) (tag : List ℕ) whe
         ((a b : Address) → AreTwins files tag a b → AreTakenForOne files tag a b) → Tidy files tag ⊎ IsHarmed files tag
     tidy-or_harmed some taken = elim (tidy-or_shown moves rests some taken) [ inl tidy ↦ inl tidy | inr shown ↦ inr (shown-harmed shown) ]
 
-pub nobody-orderly : (files : List LinkFile) (tag : List ℕ) → ¬ IsTrue (list_any (λ (file : LinkFile). has_area file tag) files) →
+pub nobody_orderly : (files : List LinkFile) (tag : List ℕ) → ¬ IsTrue (list_any (λ (file : LinkFile). has_area file tag) files) →
     (events : List RunEvent) → Orderly (run_of files events) tag
-nobody-orderly files tag none events = record {
-  filed_once = λ s h has. absurd (has_none s h has);
-  sent_once = λ s h has. absurd (has_none s h has);
-  never_own = λ s h has. absurd (has_none s h has);
-  all_came = λ settled f at_f posting filed is s h has. absurd (has_none s h has);
-}
+nobody_orderly files tag none events = grind (arith, has_none)
   where
     has_none : (s : System) → Among s (run_of files events).systems → has_area s.file tag ≡ true → ⊥
     has_none s h has =
-        let P : List LinkFile → Type 0 = λ fs. Among s.file fs in
         none (any-to (λ (file : LinkFile). has_area file tag) s.file files
-        (subst P (run-files files events) (Among-map_to (λ (z : System). z.file) s (run_of files events).systems h)) has)
+        (rw (run-files files events) at (Among-map_to (λ (z : System). z.file) s (run_of files events).systems h)) has)

@@ -1,19 +1,13 @@
 -- The base is the history, as the last purge left it.
-use Rattle.std.proofs.Common.{◌≡◌, refl, sym, ap, ◌∙◌, ℕ, zero, suc, ◌+◌, ◌≤◌, arith, List, [], ◌∷◌, ◌++◌, length, drop, Option, Some, None, subst, ◌⊎◌, inl, inr}
-use Rattle.std.proofs.lemmas.{List.append_assoc, List.append-nil, Bool.cond-true, Bool.cond-false}
-use Rattle.std.specs.Prelude.{Bool, true, false, if◌then◌else◌}
+use Rattle.std.{proofs.{Common.{◌≡◌, refl, sym, ap, ◌∙◌, ℕ, zero, suc, ◌+◌, ◌≤◌, arith, List, [], ◌∷◌, ◌++◌, length, drop, Option, Some, None, subst, ◌⊎◌, inl, inr}, lemmas.{List.{append_assoc, append-nil}, Bool.{cond-true, cond-false}}}, specs.Prelude.{Bool, true, false, if◌then◌else◌}}
 use Rattle.echo_addr.specs.declared.address.Address.{Address}
 use Rattle.echo_packet.specs.Message.{Message}
 use Rattle.echo_links.specs.Links.{LinkFile}
-use Rattle.echo_filed.specs.{Filed.Filed, Filed.key_of, Stubs.stub_of, declared.key.Key.Key}
-use Rattle.echo_filed.proofs.Keys.{stub_of_stub}
-use Rattle.model_steps.specs.{declared.stamp.Stamp.Stamp, Posting.posting, Posting.IsAllowed, Posting.posted, Purging.purged, Stamps.is_stamp, Tossing.tossing, Tossing.received, declared.packet.Packet.Packet, declared.draft.Draft.Draft}
-use Rattle.model_run.specs.{Lone.LoneEvent, Lone.LoneSystem, Lone.PostHere, Lone.PurgeHere, Lone.ScanHere, Lone.TossHere, Lone.after_all_lone, Lone.after_lone, Lone.lone_at_first, Lone.lone_run, Lone.with_scanned, Lone.with_system, Run.System, Run.filing, Run.tossing_at, Run.IsLater, Orderly.count, Owed.IsFiledBy, Owed.IsFromLink}
-use Rattle.model_graph.specs.Walk.{Among}
-use Rattle.model_graph.proofs.Members.{Among-append_left, Among-append_cases, Among-append_right}
+use Rattle.echo_filed.{specs.{Filed.{Filed, key_of}, Stubs.stub_of, declared.key.Key.Key}, proofs.Keys.stub_of_stub}
+use Rattle.model_steps.{specs.{declared.{stamp.Stamp.Stamp, packet.Packet.Packet, draft.Draft.Draft}, Posting.{posting, IsAllowed, posted}, Purging.purged, Stamps.is_stamp, Tossing.{tossing, received}}, proofs.{FirstRefusals.refusal_none, Posted.posting_posted, Received.{received_tossing, tossing_received}}}
+use Rattle.model_run.{specs.{Lone.{LoneEvent, LoneSystem, PostHere, PurgeHere, ScanHere, TossHere, after_all_lone, after_lone, lone_at_first, lone_run, with_scanned, with_system}, Run.{System, filing, tossing_at, IsLater}, Orderly.count, Owed.{IsFiledBy, IsFromLink}}, proofs.{Lists.{not_both, yes_or_no}, Areas.link-has_area as area-has}}
+use Rattle.model_graph.{specs.Walk.Among, proofs.Members.{Among-append_left, Among-append_cases, Among-append_right}}
 use Rattle.base_file.specs.Base.{is_known}
-use Rattle.model_steps.proofs.{FirstRefusals.refusal_none, Posted.posting_posted, Received.received_tossing, Received.tossing_received}
-use Rattle.model_run.proofs.{Lists.not_both, Lists.yes_or_no, Areas.link-has_area as area-has}
 
 pub purged-none : (ms : List Filed) → purged ms 0 ≡ ms
 unfolding purged
@@ -76,8 +70,7 @@ scan-left : (s : LoneSystem) (stamp : Stamp) (b : Bool) → IsLoneLeft s → IsL
 scan-left s stamp b h1 = grind (arith, base-length)
 
 pub event-left : (s : LoneSystem) (event : LoneEvent) → IsLoneLeft s → IsLoneLeft (after_lone s event)
-event-left s (PostHere tag draft serial stamp) left =
-    filing-left s.system s.purged_to (posting s.system.file s.system.base tag draft serial stamp) left
+event-left s (PostHere tag draft serial stamp) left = filing-left s.system s.purged_to (posting s.system.file s.system.base tag draft serial stamp) left
 event-left s (TossHere sender messages) left = tossing-left sender messages s.system s.purged_to left
 event-left s (ScanHere stamp) left = scan-left s stamp (is_stamp stamp) left
 event-left s PurgeHere left = grind (arith, purged-again)
@@ -171,8 +164,7 @@ run-append file earlier later = events-append earlier later (lone_at_first file)
 
 pub run-lasts : (file : LinkFile) (earlier later : List LoneEvent) → Lasts (lone_run file earlier) (lone_run file (earlier ++ later))
 run-lasts file earlier later =
-    let P : LoneSystem → Type 0 = λ z. Lasts (lone_run file earlier) z in
-    subst P (sym (run-append file earlier later)) (events-last later (lone_run file earlier) (run-left file earlier))
+    rw (← (run-append file earlier later)) at (events-last later (lone_run file earlier) (run-left file earlier))
 
 pub run-file : (file : LinkFile) (events : List LoneEvent) → (lone_run file events).system.file ≡ file
 run-file file events = (events-last events (lone_at_first file) (first-left file)).system.file
@@ -247,29 +239,25 @@ events-from (event ∷ later) s left m h =
         | inr new ↦ inr ([], event, later, refl, new)
       ]
       | inr new ↦ (let (before, e, after, same, by) = new in
-          let P : LinkFile → Type 0 = λ file. IsFiledBy file (after_all_lone s (event ∷ before)).system.base m e in
           inr (
             event ∷ before,
             e,
             after,
             ap (λ (es : List LoneEvent). event ∷ es) same,
-            subst P (events-last (event ∷ []) s left).system.file by,
+            rw (events-last (event ∷ []) s left).system.file at by,
           ))
     ]
 
 pub run-from : (file : LinkFile) (events : List LoneEvent) (m : Filed) → Among m (lone_run file events).system.history →
     IsFiledAmong (lone_at_first file) file events m
-run-from file events m h =
-    elim (events-from events (lone_at_first file) (first-left file) m h) [ inl none ↦ absurd none | inr found ↦ found ]
+run-from file events m h = elim (events-from events (lone_at_first file) (first-left file) m h) [ inl none ↦ absurd none | inr found ↦ found ]
 
 event-stays : (file : LinkFile) (earlier later : List LoneEvent) (event : LoneEvent) (m : Filed) →
     Among m (after_lone (lone_run file earlier) event).system.history → Among m (lone_run file (earlier ++ event ∷ later)).system.history
 event-stays file earlier later event m h =
     let s = lone_run file earlier in
     let z = after_lone s event in
-    let P : LoneSystem → Type 0 = λ t. Among m t.system.history in
-    subst P (sym (run-append file earlier (event ∷ later)))
-    (filed-later z.system (after_all_lone z later).system (events-last later z (event-left s event (run-left file earlier))).system m h)
+    rw (← (run-append file earlier (event ∷ later))) at (filed-later z.system (after_all_lone z later).system (events-last later z (event-left s event (run-left file earlier))).system m h)
 
 filed-now : (s : System) (o : Option Filed) (m : Filed) → o ≡ Some m → Among m (filing s o).history
 filed-now s o m e = grind (arith, Among-append_right)
@@ -307,11 +295,8 @@ run-new file earlier later sender before after packed from none =
     let s = (lone_run file earlier).system in
     let z = tossing_at sender before s in
     let next = filing z (tossing z.file z.base sender packed) in
-    let Q : LoneSystem → Type 0 = λ t. count (key_of m) t.system.base ≡ 0 in
-    let new = unknown (key_of m) z.base (subst Q (run-append file earlier (TossHere sender before ∷ [])) none) in
-    let P : LinkFile → Type 0 = λ f. IsFromLink f sender packed in
-    let there = new-filed z sender packed (subst P (sym ((tossing-grows sender before s).file ∙ run-file file earlier)) from) new in
-    let R : System → Type 0 = λ t. Among m t.history in
+    let new = unknown (key_of m) z.base (rw (run-append file earlier (TossHere sender before ∷ [])) at none) in
+    let there = new-filed z sender packed (rw (← ((tossing-grows sender before s).file ∙ run-file file earlier)) at from) new in
     event-stays file earlier later (TossHere sender (before ++ packed ∷ after)) m
-    (subst R (sym (tossing-append sender before (packed ∷ after) s))
+    (rw (← (tossing-append sender before (packed ∷ after) s)) at
     (filed-later next (tossing_at sender after next) (grown-later next (tossing_at sender after next) (tossing-grows sender after next)) m there))

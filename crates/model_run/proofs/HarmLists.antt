@@ -1,10 +1,7 @@
 -- Items of lists by their index, and the items after some of them.
-use Rattle.std.proofs.Common.{◌≡◌, inl, inr, refl, sym, ap, ℕ, zero, suc, ◌<◌, arith, List, [], ◌∷◌, ◌++◌, length, map, Some, None}
-use Rattle.std.proofs.lemmas.Bool.{cond-true, cond-false}
-use Rattle.std.specs.{Prelude.Bool, Prelude.false, List.position_or_len}
+use Rattle.std.{proofs.{Common.{◌≡◌, inl, inr, refl, sym, ap, ℕ, zero, suc, ◌<◌, arith, List, [], ◌∷◌, ◌++◌, length, map, Some, None}, lemmas.Bool.{cond-true, cond-false}}, specs.{Prelude.{Bool, false}, List.position_or_len}}
 use Rattle.model_graph.specs.Walk.{Among}
-use Rattle.model_run.specs.Run.{nth, change}
-use Rattle.model_run.proofs.{Lists.yes_or_no, Targets.some_same, Targets.none_some}
+use Rattle.model_run.{specs.Run.{nth, change}, proofs.{Lists.yes_or_no, Targets.{some_same, none_some}}}
 
 pub nth-below : {X : Type 0} (i : ℕ) (xs : List X) → i < length xs → (x : X) × (nth i xs ≡ Some x)
 nth-below i [] less = absurd (omega arith)

@@ -1,15 +1,12 @@
 -- Runs event by event: invariants, the files that stay, and the messages that a toss may file.
-use Rattle.std.proofs.Common.{◌≡◌, ◌⊎◌, inl, inr, refl, sym, subst, ◌∙◌, List, [], ◌∷◌, ◌++◌, map, Some, arith}
-use Rattle.std.proofs.lemmas.List.{append_assoc, append-nil}
-use Rattle.std.specs.List.{AllByRecursion}
+use Rattle.std.{proofs.{Common.{◌≡◌, ◌⊎◌, inl, inr, refl, sym, subst, ◌∙◌, List, [], ◌∷◌, ◌++◌, map, Some, arith}, lemmas.List.{append_assoc, append-nil}}, specs.List.AllByRecursion}
 use Rattle.echo_addr.specs.declared.address.Address.{Address}
 use Rattle.model_graph.specs.Walk.{Among}
 use Rattle.echo_packet.specs.Message.{Message}
 use Rattle.model_steps.specs.{declared.outcome.Outcome.Outcome, Tossing.received, Tossing.toss_outcome, Tossing.tossing, Tossing.where_filed}
 use Rattle.echo_links.specs.Links.{LinkFile}
 use Rattle.echo_filed.specs.Filed.{Filed}
-use Rattle.model_run.specs.{Run.System, Run.Run, Run.after_event, Run.after_events, Run.filing, Run.run_of, Run.start, Run.tossing_at, Event.RunEvent}
-use Rattle.model_run.proofs.{WholeRuns.event-files, WholeRuns.files_of, WholeRuns.filing-file, WholeRuns.fresh-files, Filings.filing-from as filing-new, Targets.some_same, Targets.none_some}
+use Rattle.model_run.{specs.{Run.{System, Run, after_event, after_events, filing, run_of, start, tossing_at}, Event.RunEvent}, proofs.{WholeRuns.{event-files, files_of, filing-file, fresh-files}, Filings.filing-from as filing-new, Targets.{some_same, none_some}}}
 
 pub after-append : (events later : List RunEvent) (run : Run) → after_events run (events ++ later) ≡ after_events (after_events run events) later
 after-append [] later run = refl

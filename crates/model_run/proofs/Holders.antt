@@ -1,29 +1,19 @@
 -- In an orderly run that has settled after one posting, each carrier got the posting from just one link.
-use Rattle.std.proofs.Common.{◌≡◌, ◌≢◌, ◌⊎◌, inl, inr, refl, sym, subst, ap, ◌∙◌, ℕ, ◌≤◌, arith, IsTrue, List, [], ◌∷◌, take, drop, map, Some, None}
-use Rattle.std.proofs.lemmas.{Bool.cases_eq, List.take-append-drop}
-use Rattle.std.specs.{Prelude.Bool, Prelude.true, Prelude.false, List.AllByRecursion}
+use Rattle.std.{proofs.{Common.{◌≡◌, ◌≢◌, ◌⊎◌, inl, inr, refl, sym, subst, ap, ◌∙◌, ℕ, ◌≤◌, arith, IsTrue, List, [], ◌∷◌, take, drop, map, Some, None}, lemmas.{Bool.cases_eq, List.take-append-drop}}, specs.{Prelude.{Bool, true, false}, List.AllByRecursion}}
 use Rattle.echo_addr.specs.{declared.address.Address.Address, Address.net_node_of}
-use Rattle.model_graph.specs.Walk.{Among, Different}
-use Rattle.model_graph.proofs.Members.{Among-append_cases}
+use Rattle.model_graph.{specs.Walk.{Among, Different}, proofs.Members.Among-append_cases}
 use Rattle.model_steps.specs.{declared.packet.Packet.Packet, Posting.posted, Scanning.is_seen_by}
 use Rattle.echo_text.specs.Echo.{EchoText}
 use Rattle.echo_links.specs.Links.{LinkFile, has_area, is_link, links_of}
 use Rattle.echo_filed.specs.{declared.key.Key.Key, Filed.Filed, Filed.key_of}
-use Rattle.model_run.specs.{Run.Run, Run.System, Run.destination, Run.nth, Run.run_of, Run.filing, Run.fresh, Run.scanning_at, Event.RunEvent, Exports.Export, Exports.IsSentCopy, Exports.exports, Exports.sent_by, Tidy.Carries, Tidy.lists, Grave.AllAreCarriers, Harms.Harm, Harms.SentItsOwn, Postings.IsMove, Postings.trial_posting, Postings.post_and_scan, LawsOfRuns.LawsOfRuns}
-use Rattle.model_run.specs.Orderly.{IsPosting, Settled, copies, count, origin, sent_count, tag_of}
-use Rattle.model_run.proofs.OneMessage.{Arrived, OnlyPosted, only-posted, post_of, post_of-tag, poster, counted, counted-one, one-or_zero, sent-part, sent-two, posted-at}
-use Rattle.model_run.proofs.{Places.carrier-file, Places.file-carries, Places.file-lists, Places.lists-link, Places.one-system, Places.lists-file, Lists.Among-take, Lists.not_both, Lists.nth-among, HarmLists.among-nth, HarmLists.nth-map, HarmLists.nth-changed, Resting.export-of, Resting.file-there, Resting.system-there, Spreads.Came, Spreads.Spread, HarmSteps.run-files, HarmSteps.after_one_more, Targets.some_same, Targets.none_some}
-use Rattle.model_run.proofs.Areas.{link-area, among-link, among-seen, exported-path, listed-from, listed-to, seen-among, target-link, target-to, target-unseen, link-among, key-tag}
+use Rattle.model_run.{specs.{Run.{Run, System, destination, nth, run_of, filing, fresh, scanning_at}, Event.RunEvent, Exports.{Export, IsSentCopy, exports, sent_by}, Tidy.{Carries, lists}, Grave.AllAreCarriers, Harms.{Harm, SentItsOwn}, Postings.{IsMove, trial_posting, post_and_scan}, LawsOfRuns.LawsOfRuns, Orderly.{IsPosting, Settled, copies, count, origin, sent_count, tag_of}}, proofs.{OneMessage.{Arrived, OnlyPosted, only-posted, post_of, post_of-tag, poster, counted, counted-one, one-or_zero, sent-part, sent-two, posted-at}, Places.{carrier-file, file-carries, file-lists, lists-link, one-system, lists-file}, Lists.{Among-take, not_both, nth-among}, HarmLists.{among-nth, nth-map, nth-changed}, Resting.{export-of, file-there, system-there}, Spreads.{Came, Spread}, HarmSteps.{run-files, after_one_more}, Targets.{some_same, none_some}, Areas.{link-area, among-link, among-seen, exported-path, listed-from, listed-to, seen-among, target-link, target-to, target-unseen, link-among, key-tag}}}
 
 some-or_all : {X : Type 0} (P Q : X → Type 0) → ((x : X) → P x ⊎ Q x) → (xs : List X) → ((x : X) × Among x xs × P x) ⊎ ((x : X) → Among x xs → Q x)
 some-or_all P Q decide [] = inr (λ x h. absurd h)
 some-or_all P Q decide (y ∷ xs) =
     elim (decide y) [
       | inl here ↦ inl (y, inl refl, here)
-      | inr other ↦ elim (some-or_all P Q decide xs) [
-        | inl later ↦ (let (x, h, found) = later in inl (x, inr h, found))
-        | inr all ↦ inr (λ x h. elim h [ inl e ↦ subst Q (sym e) other | inr t ↦ all x t ])
-      ]
+      | inr other ↦ grind (arith, some-or_all P Q decide xs)
     ]
 
 where_area : {P Q : Type 0} (has : Bool) → P ⊎ Q → ((has ≡ true) × P) ⊎ (has ≡ true → Q)
@@ -105,16 +95,14 @@ module _ (files : List LinkFile) (known : LawsOfRuns files) (tag : List ℕ) (on
     where
       of_poster : (z : System) → nth i run.systems ≡ Some z → z.file ≡ file → Among p z.history → 1 ≤ sent_count f (key_of p) run.packets → SentItsOwn run tag
       of_poster z at same held sent =
-          let P : List Filed → Type 0 = λ ms. Among p ms in
-          let Q : LinkFile → Type 0 = λ g. 1 ≤ sent_count g.system (key_of p) run.packets in
           record {
             system = z;
             there = system-at i z at;
             carries = ap (λ (g : LinkFile). has_area g tag) same ∙ area;
             message = p;
-            filed = subst P (sym (only.whole i z at)) held;
+            filed = rw ((only.whole i z at)) held;
             posting = p_posting;
-            sent = subst Q (sym same) sent;
+            sent = rw same sent;
           }
 
       lacks_or_none : Settled run tag → ((s : System) → Among s run.systems → has_area s.file tag ≡ true → sent_count s.file.system (key_of p) run.packets ≤ 1) →
@@ -160,9 +148,8 @@ module _ (files : List LinkFile) (known : LawsOfRuns files) (tag : List ℕ) (on
     holds-one : (x : Address) (m n : Filed) → Holds x m → Holds x n → m ≡ n
     holds-one x m n a b =
         let (_, same) = same-system x m n a b in
-        let P : System → Type 0 = λ s. Among n s.history in
         let few = once a.index a.system a.at a.area_there in
-        counted-one (key_of p) a.system.history (omega (arith, few)) m n a.filed (subst P (sym same) b.filed) a.key b.key
+        counted-one (key_of p) a.system.history (omega (arith, few)) m n a.filed (rw (← same) at b.filed) a.key b.key
 
     -- the sender of a message that came
     record Sent (x : Address) (m : Filed) : Type 0 where
@@ -178,21 +165,18 @@ module _ (files : List LinkFile) (known : LawsOfRuns files) (tag : List ℕ) (on
     sent-from x m a arrived =
         let (e, at_e, same) = export-of files known events arrived.packet arrived.there in
         let (maker, at, from, copied) = known.made events e at_e in
-        let P : Packet → Type 0 = λ q. Among m (copies q) in
-        let (original, j, copy) = copied m (subst P same arrived.copy) in
+        let (original, j, copy) = copied m (rw same at arrived.copy) in
         let to : destination e.packet ≡ x = ap (λ (q : Packet). destination q) (sym same) ∙ (arrived.to ∙ a.address) in
-        let Q : Address → Type 0 = λ y. IsSentCopy maker.file original y m in
         let sender : origin arrived.packet ≡ maker.file.system = ap (λ (q : Packet). origin q) same ∙ from in
         let link : is_link a.system.file tag maker.file.system ≡ true = grind (arith, of_area) in
-        let R : Address → Type 0 = λ y. IsTrue (lists files tag y maker.file.system) in
         record {
           export = e;
           maker = maker;
           at = at;
           original = original;
           scanned = j;
-          copy = subst Q to copy;
-          back = subst R a.address (file-lists files tag a.system.file (file-there files known events a.system (system-at a.index a.system a.at)) maker.file.system link);
+          copy = rw to at copy;
+          back = rw a.address at (file-lists files tag a.system.file (file-there files known events a.system (system-at a.index a.system a.at)) maker.file.system link);
         }
 
     module _ (x : Address) (m : Filed) (a : Holds x m) (sent : Sent x m) where
@@ -233,17 +217,12 @@ module _ (files : List LinkFile) (known : LawsOfRuns files) (tag : List ℕ) (on
         unseen = target-unseen maker.file original x copy.target;
         path = ap (λ (e : EchoText). e.path) copy.text ∙ exported-path maker.file original.echo;
         seen_from = λ y h.
-            let P : EchoText → Type 0 = λ e. Among (net_node_of y) e.seen in
-            elim (listed-from maker.file original.echo (net_node_of y) (subst P copy.text (seen-among m y h))) [
+            elim (listed-from maker.file original.echo (net_node_of y) (rw copy.text at (seen-among m y h))) [
               | inl before ↦ inl (among-seen original y before)
-              | inr near ↦ inr (elim near [
-                | inl here ↦ inl here
-                | inr link ↦ (let (z, j, e) = link in inr (z, linked z j, e))
-              ])
+              | inr near ↦ grind (arith, linked)
             ];
         seen_to = λ y h.
-            let P : EchoText → Type 0 = λ e. Among (net_node_of y) e.seen in
-            among-seen m y (subst P (sym copy.text) (listed-to maker.file original.echo (net_node_of y) (elim h [
+            among-seen m y (rw (← copy.text) at (listed-to maker.file original.echo (net_node_of y) (elim h [
               | inl before ↦ inl (seen-among original y before)
               | inr near ↦ inr (elim near [
                 | inl here ↦ inl here
@@ -254,16 +233,14 @@ module _ (files : List LinkFile) (known : LawsOfRuns files) (tag : List ℕ) (on
 
       sent-there : sent_count x (key_of p) (sent_by sent.export.system (exports files events)) ≡ 1
       sent-there =
-          let P : Key → Type 0 = λ k. sent_count x k (sent_by sent.export.system (exports files events)) ≡ 1 in
-          subst P original-key (known.sent events sent.export.system maker sent.at original sent.scanned x copy.target)
+          rw original-key at (known.sent events sent.export.system maker sent.at original sent.scanned x copy.target)
 
     held-or_came : (x : Address) (m : Filed) (a : Holds x m) → ((a.index ≡ i) × (x ≡ f) × (m ≡ p)) ⊎ Sent x m
     held-or_came x m a =
         elim (only.from a.index a.system a.at m a.filed) [
           | inr arrived ↦ inr (sent-from x m a arrived)
           | inl posting ↦ (
-              let P : List LinkFile → Type 0 = λ fs. nth a.index fs ≡ Some a.system.file in
-              let at_file = subst P (run-files files events) (nth-map (λ (s : System). s.file) a.index a.system run.systems a.at) in
+              let at_file = rw (run-files files events) at (nth-map (λ (s : System). s.file) a.index a.system run.systems a.at) in
               let Q : ℕ → Type 0 = λ j. nth j files ≡ Some a.system.file in
               grind (arith, some_same)
               )
@@ -272,11 +249,10 @@ module _ (files : List LinkFile) (known : LawsOfRuns files) (tag : List ℕ) (on
     was_scanned : (x : Address) (m : Filed) (a : Holds x m) → Among m (take a.system.cursor a.system.history)
     was_scanned x m a =
         let s = a.system in
-        let P : List Filed → Type 0 = λ ms. Among m ms in
-        elim (Among-append_cases m (take s.cursor s.history) (drop s.cursor s.history) (subst P (sym (take-append-drop s.cursor s.history)) a.filed)) [
+        elim (Among-append_cases m (take s.cursor s.history) (drop s.cursor s.history) (rw (← (take-append-drop s.cursor s.history)) at a.filed)) [
           | inl done ↦ done
           | inr waits ↦ absurd (unharmed.settled.scanned s (system-at a.index s a.at) m
-              (subst P (sym (known.waiting events s (system-at a.index s a.at))) waits) (of_area m a.key))
+              (rw (← (known.waiting events s (system-at a.index s a.at))) at waits) (of_area m a.key))
         ]
 
     all_sent : (y : Address) → sent_count y (key_of p) (map (λ (e : Export). e.packet) (exports files events)) ≡ sent_count y (key_of p) run.packets
@@ -288,15 +264,11 @@ module _ (files : List LinkFile) (known : LawsOfRuns files) (tag : List ℕ) (on
     sole u n y m a link unseen not_sender b =
         let s = a.system in
         let all = exports files events in
-        let R : Address → Type 0 = λ z. IsTrue (lists files tag z y) in
-        let in_links = lists-link files known one_file events tag s (system-at a.index s a.at) y (subst R (sym a.address) link) in
-        let Q : List ℕ → Type 0 = λ t. Among y (links_of s.file t) in
-        let target = target-to s.file n y (subst Q (sym (of_area n a.key)) in_links) not_sender unseen in
-        let P : Key → Type 0 = λ k. sent_count y k (sent_by a.index all) ≡ 1 in
-        let here = subst P a.key (known.sent events a.index s a.at n (was_scanned u n a) y target) in
+        let in_links = lists-link files known one_file events tag s (system-at a.index s a.at) y (rw (← a.address) at link) in
+        let target = target-to s.file n y (rw (← (of_area n a.key)) at in_links) not_sender unseen in
+        let here = rw a.key at (known.sent events a.index s a.at n (was_scanned u n a) y target) in
         let receiver = b.system in
-        let S : Address → Type 0 = λ z. sent_count z (key_of p) run.packets ≤ 1 in
-        let few = subst S b.address (unharmed.sent_once receiver (system-at b.index receiver b.at) b.area_there) in
+        let few = rw b.address at (unharmed.sent_once receiver (system-at b.index receiver b.at) b.area_there) in
         elim (held-or_came y m b) [
           | inl posting ↦ grind (arith, sent-part, all_sent)
           | inr sent ↦ elim (cases_eq a.index sent.export.system) [
@@ -324,8 +296,7 @@ module _ (files : List LinkFile) (known : LawsOfRuns files) (tag : List ℕ) (on
       own = posting-own file tag;
       no_path = posting-path file tag;
       unlisted = posting-seen file tag;
-      carriers = λ x m a. (let P : Address → Type 0 = λ y. Carries files tag y in
-          subst P a.address (file-carries files tag a.system.file (file-there files known events a.system (system-at a.index a.system a.at)) a.area_there));
+      carriers = λ x m a. (rw a.address at (file-carries files tag a.system.file (file-there files known events a.system (system-at a.index a.system a.at)) a.area_there));
       all = all-hold;
       one = holds-one;
       came = λ x m a. elim (held-or_came x m a) [ inl posting ↦ inl posting.1 | inr sent ↦ inr (sent-came x m a sent) ];
@@ -341,13 +312,11 @@ module _ (files : List LinkFile) (known : LawsOfRuns files) (tag : List ℕ) (i 
   pub scanned-there : nth i (run_of files (post_and_scan i tag)).systems ≡ Some scanned-poster
   scanned-there = grind (arith, posted-at, after_one_more, nth-changed, post_of)
 
-  pub sent-to_link : (a : Address) → is_link file tag a ≡ true →
-      1 ≤ sent_count a (key_of (post_of file tag)) (run_of files (post_and_scan i tag)).packets
+  pub sent-to_link : (a : Address) → is_link file tag a ≡ true → 1 ≤ sent_count a (key_of (post_of file tag)) (run_of files (post_and_scan i tag)).packets
   sent-to_link a link =
       let events = post_and_scan i tag in
       let p = post_of file tag in
-      let P : List ℕ → Type 0 = λ t. Among a (links_of file t) in
-      let target = target-to file p a (subst P (sym (post_of-tag files known tag i file is area)) (link-among file tag a link))
+      let target = target-to file p a (rw (← (post_of-tag files known tag i file is area)) at (link-among file tag a link))
       (λ e. none_some (sym (posting-own file tag) ∙ e)) (posting-seen file tag a) in
       let one = known.sent events i scanned-poster scanned-there p (inl refl) a target in
       let all = ap (λ (ps : List Packet). sent_count a (key_of p) ps) (known.packets events) in

@@ -1,14 +1,11 @@
 -- A system keeps its messages over all events.
-use Rattle.std.proofs.Common.{◌≡◌, inl, inr, refl, sym, subst, ℕ, arith, List, [], ◌∷◌, ◌++◌, length, Option, Some, None}
-use Rattle.std.proofs.lemmas.List.{append_assoc, append-nil}
-use Rattle.std.specs.Prelude.{take}
+use Rattle.std.{proofs.{Common.{◌≡◌, inl, inr, refl, sym, subst, ℕ, arith, List, [], ◌∷◌, ◌++◌, length, Option, Some, None}, lemmas.List.{append_assoc, append-nil}}, specs.Prelude.take}
 use Rattle.echo_addr.specs.declared.address.Address.{Address}
 use Rattle.echo_packet.specs.Message.{Message}
 use Rattle.model_steps.specs.{declared.packet.Packet.Packet, Posting.posting, Tossing.sender_of, Tossing.tossing}
 use Rattle.echo_links.specs.Links.{LinkFile}
 use Rattle.echo_filed.specs.Filed.{Filed}
-use Rattle.model_run.specs.{Run.IsLater, Run.System, Run.Run, Run.after_event, Run.after_events, Run.change, Run.filing, Run.nth, Run.posting_at, Run.purging_at, Run.receiver, Run.run_of, Run.scanning_at, Run.start, Run.taking, Run.tossing_at, Event.RunEvent}
-use Rattle.model_run.proofs.{EventKinds.each-kind, TosserPremises.Laws, Lists.nth-among, Lists.nth-changed, Bases.Kept, Bases.Kept-cursor, Bases.Kept-length, EachSystem.AllKept, EachSystem.event-kept, EachSystem.run-kept, HarmSteps.after-append}
+use Rattle.model_run.{specs.{Run.{IsLater, System, Run, after_event, after_events, change, filing, nth, posting_at, purging_at, receiver, run_of, scanning_at, start, taking, tossing_at}, Event.RunEvent}, proofs.{EventKinds.each-kind, TosserPremises.Laws, Lists.{nth-among, nth-changed}, Bases.{Kept, Kept-cursor, Kept-length}, EachSystem.{AllKept, event-kept, run-kept}, HarmSteps.after-append}}
 
 pub later-itself : (s : System) → IsLater s s
 later-itself s = record { file = refl; cursor = omega arith; filed = ([], sym (append-nil s.history)) }
@@ -70,5 +67,4 @@ events-last laws (event ∷ events) run kept = λ i s e.
 
 pub run-last : Laws → (files : List LinkFile) (events later : List RunEvent) → Lasts (run_of files events).systems (run_of files (events ++ later)).systems
 run-last laws files events later =
-    let P : Run → Type 0 = λ run. Lasts (run_of files events).systems run.systems in
-    subst P (sym (after-append events later (start files))) (events-last laws later (run_of files events) (run-kept laws files events))
+    rw (← (after-append events later (start files))) at (events-last laws later (run_of files events) (run-kept laws files events))

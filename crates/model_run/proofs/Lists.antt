@@ -1,11 +1,7 @@
 -- Items of lists by their index, and members of mapped and filtered lists.
-use Rattle.std.proofs.Common.{◌≡◌, ◌≢◌, ◌⊎◌, inl, inr, refl, subst, ap, ◌∙◌, ℕ, zero, suc, arith, List, [], ◌∷◌, ◌++◌, length, take, drop, map, Some, None}
-use Rattle.std.proofs.lemmas.Bool.{cond-true, cond-false, eq-eqb}
-use Rattle.std.specs.{Prelude.Bool, Prelude.true, Prelude.false, Prelude.filter, Prelude.◌&&◌, Prelude.◌||◌, List.flat_map, List.list_any, List.position_or_len}
-use Rattle.model_graph.specs.Walk.{Among, Different}
-use Rattle.model_run.specs.Run.{nth, change, with_index}
-use Rattle.model_run.proofs.Targets.{none_some}
-use Rattle.model_graph.proofs.Members.{Among-append_cases, Among-append_left, Among-append_right}
+use Rattle.std.{proofs.{Common.{◌≡◌, ◌≢◌, ◌⊎◌, inl, inr, refl, subst, ap, ◌∙◌, ℕ, zero, suc, arith, List, [], ◌∷◌, ◌++◌, length, take, drop, map, Some, None}, lemmas.Bool.{cond-true, cond-false, eq-eqb}}, specs.{Prelude.{Bool, true, false, filter, ◌&&◌, ◌||◌}, List.{flat_map, list_any, position_or_len}}}
+use Rattle.model_graph.{specs.Walk.{Among, Different}, proofs.Members.{Among-append_cases, Among-append_left, Among-append_right}}
+use Rattle.model_run.{specs.Run.{nth, change, with_index}, proofs.Targets.none_some}
 
 pub yes_or_no : (b : Bool) → (b ≡ true) ⊎ (b ≡ false)
 yes_or_no b = grind arith
@@ -134,8 +130,7 @@ pub any-from : {X : Type 0} (p : X → Bool) (xs : List X) → list_any p xs ≡
 any-from p [] h = absurd (not_both false h refl)
 any-from p (y ∷ xs) h = grind (arith, yes_or_no, or-rest, any-from p xs)
 
-pub Among-change : {X : Type 0} (i : ℕ) (f : X → X) (z : X) (xs : List X) → Among z (change i f xs) →
-    Among z xs ⊎ ((x : X) × Among x xs × (z ≡ f x))
+pub Among-change : {X : Type 0} (i : ℕ) (f : X → X) (z : X) (xs : List X) → Among z (change i f xs) → Among z xs ⊎ ((x : X) × Among x xs × (z ≡ f x))
 Among-change i f z [] h = absurd h
 Among-change zero f z (x ∷ xs) h = elim h [ inl e ↦ inr (x, inl refl, e) | inr t ↦ inl (inr t) ]
 Among-change (suc i) f z (x ∷ xs) h = grind (arith, Among-change i f z xs)

@@ -1,12 +1,7 @@
 -- Nets of a few systems that are all linked with each other: they are tidy.
-use Rattle.std.proofs.Common.{◌≡◌, ◌≢◌, inl, inr, refl, sym, ap, ◌∙◌, ℕ, ◌<◌, arith, IsTrue, List, [], ◌∷◌, ◌↔◌, subst, Some, None}
-use Rattle.std.proofs.lemmas.Bool.{ltb-true, lt-ltb, and_parts, and_from, Decides.eqb_tells}
-use Rattle.std.specs.Prelude.{Bool, true, false, not, ◌&&◌, ◌==◌, nat_lt}
-use Rattle.model_graph.specs.{Walk.Among, Walk.Simple, Cycle.Cycle}
-use Rattle.model_graph.proofs.Members.{ℕ-can_tell, walk_links}
-use Rattle.model_run.specs.{Events.Text, Events.Filed, Events.Copy, Events.Event, Events.Posts, Events.Exports, Events.Comes, Events.Has, Events.exported, Events.filed, Nets.Net, Nets.Tidy, RulesOrderly.IsMet, RulesOrderly.IsNeeded, RulesOrderly.IsSettled}
-use Rattle.model_run.specs.Rules.{IsTarget, IsSentOnce, HasSeenBy, Rule, Kept, Always, IsPossible, ListsAll, filing, keeping, sending, telling, keys}
-use Rattle.model_run.proofs.{Targets.some_same, Chain.chain, Chain.chain-parts, Chain.chain-tidy}
+use Rattle.std.{proofs.{Common.{◌≡◌, ◌≢◌, inl, inr, refl, sym, ap, ◌∙◌, ℕ, ◌<◌, arith, IsTrue, List, [], ◌∷◌, ◌↔◌, subst, Some, None}, lemmas.Bool.{ltb-true, lt-ltb, and_parts, and_from, Decides.eqb_tells}}, specs.Prelude.{Bool, true, false, not, ◌&&◌, ◌==◌, nat_lt}}
+use Rattle.model_graph.{specs.{Walk.{Among, Simple}, Cycle.Cycle}, proofs.Members.{ℕ-can_tell, walk_links}}
+use Rattle.model_run.{specs.{Events.{Text, Filed, Copy, Event, Posts, Exports, Comes, Has, exported, filed}, Nets.{Net, Tidy}, RulesOrderly.{IsMet, IsNeeded, IsSettled}, Rules.{IsTarget, IsSentOnce, HasSeenBy, Rule, Kept, Always, IsPossible, ListsAll, filing, keeping, sending, telling, keys}}, proofs.{Targets.some_same, Chain.{chain, chain-parts, chain-tidy}}}
 
 -- the systems 0, 1 and so on below n
 abbrev pub polygon : ℕ → Net ℕ ℕ
@@ -96,8 +91,8 @@ not_at_1 : ¬ Has 1 7 (posted 0 ∷ [])
 not_at_1 has = grind arith
 
 -- a copy that comes twice is filed twice
-pub filing-needed : IsNeeded filing
-filing-needed = record {
+pub filing_needed : IsNeeded filing
+filing_needed = record {
   net = polygon 2;
   tidy = polygon-tidy 2;
   run = come 1 ∷ come 1 ∷ send 1 ∷ post 0 ∷ [];
@@ -127,8 +122,8 @@ settling-kept : (content : ℕ) (rule : Rule) → rule ≢ keeping → Kept (pol
 settling-kept content rule h1 = grind (arith, not_at_1, sent_once, linked-parts, reported)
 
 -- all rules are kept if the content stays
-pub can-be-kept : IsMet
-can-be-kept = record {
+pub can_be_kept : IsMet
+can_be_kept = record {
   net = polygon 2;
   tidy = polygon-tidy 2;
   run = settling 1;
@@ -146,8 +141,8 @@ can-be-kept = record {
     kept keys = settling-kept 1 keys (λ e. cc)
 
 -- without the rule, a copy may have another content, and so the filed message
-pub keeping-needed : IsNeeded keeping
-keeping-needed = record {
+pub keeping_needed : IsNeeded keeping
+keeping_needed = record {
   net = polygon 2;
   tidy = polygon-tidy 2;
   run = settling 2;
@@ -159,8 +154,8 @@ keeping-needed = record {
 }
 
 -- a message is exported a second time
-pub sending-needed : IsNeeded sending
-sending-needed = record {
+pub sending_needed : IsNeeded sending
+sending_needed = record {
   net = polygon 2;
   tidy = polygon-tidy 2;
   run = send 1 ∷ send 1 ∷ post 0 ∷ [];
@@ -180,8 +175,8 @@ sending-needed = record {
 abbrev unreported : List (Event ℕ ℕ ℕ ℕ)
 unreported = Exports (received 1) (2 ∷ []) (λ x. says 1) ∷ come 1 ∷ Exports (posted 0) (1 ∷ 2 ∷ []) (λ x. says 1) ∷ post 0 ∷ []
 
-pub telling-needed : IsNeeded telling
-telling-needed = record {
+pub telling_needed : IsNeeded telling
+telling_needed = record {
   net = polygon 3;
   tidy = polygon-tidy 3;
   run = unreported;
@@ -199,21 +194,7 @@ telling-needed = record {
     others : (other : Rule) → other ≢ telling → Kept (polygon 3) (λ a b. a ≡ b) unreported other
     others filing apart = (tt, ((λ yes. (refl, not_at_1), λ new. refl), (tt, (tt, tt))))
     others keeping apart = (λ x h. (refl, refl), (tt, (λ x h. (refl, refl), (tt, tt))))
-    others sending apart = (
-      record { is_filed = inl refl; first = not_at_1; targets = from_1; one_each = (λ h. h, tt) },
-      (
-        tt,
-        (
-          record {
-            is_filed = inl refl;
-            first = λ has. has.1;
-            targets = from_0;
-            one_each = (λ h. elim h [ inl e ↦ absurd (omega (arith, e)) | inr none ↦ none ], (λ h. h, tt));
-          },
-          (tt, tt),
-        ),
-      ),
-    )
+    others sending apart = grind (arith, not_at_1, from_1, from_0)
     others telling apart = absurd (apart refl)
     others keys apart = (tt, (tt, (tt, (λ m h. absurd h, tt))))
 
@@ -227,8 +208,8 @@ at_1 = record { at = 1; sender = Some 0; text = hides }
 abbrev hidden : List (Event ℕ ℕ ℕ ℕ)
 hidden = Exports at_1 [] (λ x. hides) ∷ Comes (record { from = 0; to = 1; text = hides }) true ∷ Exports (posted 0) (1 ∷ []) (λ x. hides) ∷ post 0 ∷ []
 
-pub hiding_none-needed : (needed : IsNeeded telling) × Always (ListsAll needed.net) needed.run
-hiding_none-needed = (
+pub hiding_none_needed : (needed : IsNeeded telling) × Always (ListsAll needed.net) needed.run
+hiding_none_needed = (
   record {
     net = chain;
     tidy = chain-tidy;
@@ -269,11 +250,10 @@ hiding_none-needed = (
 
         from_0 : (x : ℕ) → Among x (1 ∷ []) ↔ IsTarget chain (posted 0) x
         from_0 x = (
-          λ h. (let P : ℕ → Type 0 = λ a. IsTarget chain (posted 0) a in
-              elim h [
-                | inl e ↦ subst P (sym e) (record { link = refl; not_sender = λ none. cc; not_seen = λ i. i })
-                | inr none ↦ absurd none
-              ]),
+          λ h. (elim h [
+            | inl e ↦ rw e (record { link = refl; not_sender = λ none. cc; not_seen = λ i. i })
+            | inr none ↦ absurd none
+          ]),
           λ target. (let (below, under, near) = chain-parts 0 x target.link in
               elim near [ inl e ↦ inl (omega (arith, e)) | inr e ↦ absurd (omega (arith, e)) ]),
         )
@@ -281,8 +261,8 @@ hiding_none-needed = (
     others keys apart = (tt, (tt, (tt, (λ m h. absurd h, tt))))
 
 -- two systems give one key to two messages, and one system is sent the other message with its own key
-pub keys-needed : IsNeeded keys
-keys-needed = record {
+pub keys_needed : IsNeeded keys
+keys_needed = record {
   net = polygon 2;
   tidy = polygon-tidy 2;
   run = send 1 ∷ post 1 ∷ post 0 ∷ [];

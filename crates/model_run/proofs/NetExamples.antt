@@ -1,6 +1,5 @@
 -- Worked runs, by computation.
-use Rattle.std.proofs.Common.{◌≡◌, ℕ, List, [], ◌∷◌, codes, length, drop, map, arith}
-use Rattle.std.specs.{Prelude.Bool, Prelude.true, Fmt.digits}
+use Rattle.std.{proofs.Common.{◌≡◌, ℕ, List, [], ◌∷◌, codes, length, drop, map, arith}, specs.{Prelude.{Bool, true}, Fmt.digits}}
 use Rattle.echo_addr.specs.{declared.address.Address.Address, Entries.entries, Entries.pair_of, Entries.tokens}
 use Rattle.echo_text.specs.{Lines.lines, Lines.trimmed, Lines.begins, Lines.after_word, Tail.kept_of, Tail.path_lists, Tail.seen_lists, Echo.msgid_of, Ids.id_of, Refusal.text_refusal}
 use Rattle.model_steps.specs.{Scanning.copy_to, Scanning.exported, Scanning.header_to, Scanning.packet_to, Scanning.packets_of, Scanning.recipients, Scanning.scanned, Scanning.targets, declared.draft.Draft.Draft, declared.stamp.Stamp.Stamp, Stamps.date_of, Posting.post_refusal, Posting.posted, Posting.posted_lines, Posting.posting, Purging.purged, Tossing.received, Tossing.toss_outcome, Tossing.tossing}
@@ -66,8 +65,7 @@ abbrev pub triangle_run : Run
 triangle_run = run_of triangle (post 0 ∷ (scan 0 ∷ (Delivery 0 ∷ (Delivery 1 ∷ (scan 1 ∷ (scan 2 ∷ []))))))
 
 abbrev ring_run : Run
-ring_run =
-    run_of ring (post 0 ∷ (scan 0 ∷ (Delivery 0 ∷ (Delivery 1 ∷ (scan 2 ∷ (scan 3 ∷ (Delivery 2 ∷ (Delivery 3 ∷ (scan 1 ∷ [])))))))))
+ring_run = run_of ring (post 0 ∷ (scan 0 ∷ (Delivery 0 ∷ (Delivery 1 ∷ (scan 2 ∷ (scan 3 ∷ (Delivery 2 ∷ (Delivery 3 ∷ (scan 1 ∷ [])))))))))
 
 -- the id of the one posting
 abbrev pub first_key : Key

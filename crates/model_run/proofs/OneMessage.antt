@@ -1,19 +1,12 @@
 -- One system posts, and then messages only move: the holders of the message, and their senders.
-use Rattle.std.proofs.Common.{◌≡◌, ◌⊎◌, inl, inr, refl, sym, subst, ap, ◌∙◌, ℕ, ◌≤◌, ◌==◌, arith, List, [], ◌∷◌, ◌++◌, length, take, map, Option, Some, None, ◌≢◌, ◌+◌}
-use Rattle.std.proofs.lemmas.Bool.{cond-false, eqb-true, cond-true}
-use Rattle.std.specs.{Prelude.Bool, Prelude.true, Prelude.false, Prelude.if◌then◌else◌, List.AllByRecursion}
+use Rattle.std.{proofs.{Common.{◌≡◌, ◌⊎◌, inl, inr, refl, sym, subst, ap, ◌∙◌, ℕ, ◌≤◌, ◌==◌, arith, List, [], ◌∷◌, ◌++◌, length, take, map, Option, Some, None, ◌≢◌, ◌+◌}, lemmas.Bool.{cond-false, eqb-true, cond-true}}, specs.{Prelude.{Bool, true, false, if◌then◌else◌}, List.AllByRecursion}}
 use Rattle.echo_addr.specs.declared.address.Address.{Address}
-use Rattle.model_graph.specs.Walk.{Among}
-use Rattle.model_graph.proofs.Members.{Among-append_left}
+use Rattle.model_graph.{specs.Walk.Among, proofs.Members.Among-append_left}
 use Rattle.echo_packet.specs.Message.{Message}
 use Rattle.model_steps.specs.{declared.packet.Packet.Packet, declared.stamp.Stamp.Stamp, Posting.posted, Posting.posting, Tossing.received, Tossing.sender_of, Tossing.tossing, Tossing.zone_of, Scanning.scanned}
-use Rattle.echo_links.specs.Links.{LinkFile, has_area, is_link, same_address, upper}
-use Rattle.echo_links.proofs.Addresses.{same_address_decides}
-use Rattle.echo_filed.specs.{Written.echo_of, Filed.Filed, Filed.key_of, declared.key.Key.Key}
-use Rattle.model_run.specs.Run.{System, Run, after_event, change, coming, delivery, destination, filing, fresh, nth, posting_at, receiver, run_of, scanning, scanning_at, taking, tossing_at}
-use Rattle.model_run.specs.{Event.RunEvent, Orderly.copies, Orderly.origin, Orderly.count, Orderly.sent_count, Postings.IsMove, Postings.trial_moment, Postings.trial_posting, Postings.trial_draft, LawsOfRuns.LawsOfRuns, Exports.Export, Exports.sent_by}
-use Rattle.model_run.proofs.{Lists.Among-take, Lists.first_passes, Lists.nth-among, Lists.nth-change, Lists.yes_or_no, HarmLists.nth-changed, HarmLists.nth-map, HarmLists.nth-map_from, Resting.copy-there, Resting.export-of, Resting.file-there, HarmSteps.along, HarmSteps.after_one_more, HarmSteps.tossing-is, HarmSteps.tossing-new, WholeRuns.taking-file, Targets.some_same, Areas.upper-same}
-use Rattle.echo_filed.proofs.Keys.{same_key_decides}
+use Rattle.echo_links.{specs.Links.{LinkFile, has_area, is_link, same_address, upper}, proofs.Addresses.same_address_decides}
+use Rattle.echo_filed.{specs.{Written.echo_of, Filed.{Filed, key_of}, declared.key.Key.Key}, proofs.Keys.same_key_decides}
+use Rattle.model_run.{specs.{Run.{System, Run, after_event, change, coming, delivery, destination, filing, fresh, nth, posting_at, receiver, run_of, scanning, scanning_at, taking, tossing_at}, Event.RunEvent, Orderly.{copies, origin, count, sent_count}, Postings.{IsMove, trial_moment, trial_posting, trial_draft}, LawsOfRuns.LawsOfRuns, Exports.{Export, sent_by}}, proofs.{Lists.{Among-take, first_passes, nth-among, nth-change, yes_or_no}, HarmLists.{nth-changed, nth-map, nth-map_from}, Resting.{copy-there, export-of, file-there}, HarmSteps.{along, after_one_more, tossing-is, tossing-new}, WholeRuns.taking-file, Targets.some_same, Areas.upper-same}}
 
 -- the message that the system files
 abbrev pub post_of : LinkFile → List ℕ → Filed
@@ -92,14 +85,13 @@ module _ (files : List LinkFile) (known : LawsOfRuns files) (i : ℕ) (p : Filed
               let to_file = (known.toss s.file new.base sender new.packed).0 (new.filed ∙ ap (λ (x : Filed). Some x) is_received) in
               let from = origin-is s.file in
               let is_copy : m ≡ received (origin q) new.packed = is_received ∙ ap (λ (a : Address). received a new.packed) from in
-              let P : Filed → Type 0 = λ x. Among x (copies q) in
               let tag_is : m.echo.tag ≡ (echo_of new.packed.text).tag = ap (λ (x : Filed). x.echo.tag) is_copy ∙ received-tag (origin q) new.packed in
               let link : is_link s.file m.echo.tag (origin q) ≡ true = grind arith in
               inr (to_after (record {
                 packet = q;
                 there = at;
                 to = sym ((same_address_decides s.file.system (destination q)).0 (first_passes (λ t. same_address t.file.system (destination q)) s run.systems here));
-                copy = subst P (sym is_copy) (copy-there files known events q at new.packed (Among-take n new.packed q.messages new.of));
+                copy = rw (← is_copy) at (copy-there files known events q at new.packed (Among-take n new.packed q.messages new.of));
                 link = link;
               }))
               )
@@ -127,18 +119,12 @@ module _ (files : List LinkFile) (known : LawsOfRuns files) (i : ℕ) (p : Filed
           from = λ j z at m h. elim (nth-change k j scanning_at z now.systems at) [
             | inl other ↦ elim (only.from j z other.1 m h) [ inl posting ↦ inl posting | inr arrived ↦ inr (arrived-more now after z z m more refl arrived) ]
             | inr here ↦ (let (x, is, same) = here.1 in
-                let P : System → Type 0 = λ t. Among m t.history in
-                elim (only.from j x is m (subst P same h)) [
+                elim (only.from j x is m (rw same at h)) [
                   | inl posting ↦ inl posting
                   | inr arrived ↦ inr (arrived-more now after x z m more (ap (λ (t : System). t.file) same) arrived)
                 ])
           ];
-          whole = λ j z at. elim (nth-change k j scanning_at z now.systems at) [
-            | inl other ↦ only.whole j z other.1
-            | inr here ↦ (let (x, is, same) = here.1 in
-                let P : System → Type 0 = λ t. t.base ≡ t.history in
-                subst P (sym same) (only.whole j x is))
-          ];
+          whole = grind (arith, nth-change);
         }
 
     scanned-so : (k : ℕ) (stamp : Stamp) (o : Option System) → OnlyPosted i p (scanning now k stamp o)
@@ -194,8 +180,7 @@ module _ (files : List LinkFile) (known : LawsOfRuns files) (tag : List ℕ) (i 
   pub poster : (more : List RunEvent) → (s : System) × (nth i (run_of files (trial_posting i tag ∷ more)).systems ≡ Some s) × (s.file ≡ file) × Among (post_of file tag) s.history
   poster more =
       let (z, there, later) = known.stays (trial_posting i tag ∷ []) more i (filing (fresh file) (Some (post_of file tag))) posted-at in
-      let P : List Filed → Type 0 = λ ms. Among (post_of file tag) ms in
-      (z, there, later.file, subst P (sym later.filed.1) (inl refl))
+      (z, there, later.file, rw later.filed.1 (inl refl))
 
 -- The number of times a key is filed, and sent by one system and by all.
 
@@ -219,12 +204,10 @@ module _ (a : Address) (key : Key) where
   abbrev held : Export → ℕ
   held e = if same_address (destination e.packet) a then count key (copies e.packet) else 0
 
-  sent-own : (i : ℕ) (e : Export) (es : List Export) → (e.system == i) ≡ true →
-      sent_count a key (sent_by i (e ∷ es)) ≡ held e + sent_count a key (sent_by i es)
+  sent-own : (i : ℕ) (e : Export) (es : List Export) → (e.system == i) ≡ true → sent_count a key (sent_by i (e ∷ es)) ≡ held e + sent_count a key (sent_by i es)
   sent-own i e es t = grind (arith, cond-true)
 
-  sent-other : (i : ℕ) (e : Export) (es : List Export) → (e.system == i) ≡ false →
-      sent_count a key (sent_by i (e ∷ es)) ≡ sent_count a key (sent_by i es)
+  sent-other : (i : ℕ) (e : Export) (es : List Export) → (e.system == i) ≡ false → sent_count a key (sent_by i (e ∷ es)) ≡ sent_count a key (sent_by i es)
   sent-other i e es f = grind (arith, cond-false)
 
   pub sent-part : (i : ℕ) (es : List Export) → sent_count a key (sent_by i es) ≤ sent_count a key (map (λ (e : Export). e.packet) es)

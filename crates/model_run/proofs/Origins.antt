@@ -1,18 +1,12 @@
 -- On every net each message has the content of a posting.
-use Rattle.std.proofs.Common.{◌≡◌, ◌⊎◌, inl, inr, refl, sym, subst, ap, ◌∙◌, ℕ, zero, suc, List, [], ◌∷◌, length, take, drop, Option, None, arith}
-use Rattle.std.specs.Prelude.{filter}
+use Rattle.std.{proofs.Common.{◌≡◌, ◌⊎◌, inl, inr, refl, sym, subst, ap, ◌∙◌, ℕ, zero, suc, List, [], ◌∷◌, length, take, drop, Option, None, arith}, specs.Prelude.filter}
 use Rattle.echo_addr.specs.declared.address.Address.{Address}
-use Rattle.model_graph.specs.Walk.{Among}
-use Rattle.model_graph.proofs.Members.{Among-append_left, Among-append_cases}
+use Rattle.model_graph.{specs.Walk.Among, proofs.Members.{Among-append_left, Among-append_cases}}
 use Rattle.echo_packet.specs.Message.{Message}
-use Rattle.model_steps.specs.{declared.packet.Packet.Packet, declared.draft.Draft.Draft, declared.stamp.Stamp.Stamp, Posting.posting, Tossing.received, Tossing.tossing, Tossing.sender_of, Scanning.goes_to, Scanning.scanned}
+use Rattle.model_steps.{specs.{declared.{packet.Packet.Packet, draft.Draft.Draft, stamp.Stamp.Stamp}, Posting.posting, Tossing.{received, tossing, sender_of}, Scanning.{goes_to, scanned}}, proofs.{Posted.posted_own, Received.tossing_received}}
 use Rattle.echo_links.specs.Links.{LinkFile}
 use Rattle.echo_filed.specs.Filed.{Filed, key_of}
-use Rattle.model_run.specs.{Run.System, Run.Run, Run.filing, Run.posting_at, Run.tossing_at, Run.scanning_at, Run.purging_at, Run.change, Run.receiver, Run.changing, Run.taking, Run.after_event, Run.after_events, Run.run_of, Run.start, Event.RunEvent, Fits.FilesFit, Orderly.copies, Orderly.origin, Keeping.content_of}
-use Rattle.model_run.proofs.{Lists.Among-change, Lists.Among-filter_from, Lists.Among-filter_to, Lists.Among-drop, Lists.Among-take, Lists.nth-among, Lists.Among-map_to, Lists.Among-map_from, EventKinds.each-kind, TosserPremises.Laws, Copies.copied, Copies.copied-content, Copies.copied-key, Copies.copies-are, StandingTosses.origin-is}
-use Rattle.model_run.proofs.Bases.{AllMade, Kept-waiting, SystemOk, RunOk, event-made, event-ok, start-ok, scanned-from, waiting-valid}
-use Rattle.model_run.proofs.Filings.{filing-from as filing-new}
-use Rattle.model_steps.proofs.{Posted.posted_own, Received.tossing_received}
+use Rattle.model_run.{specs.{Run.{System, Run, filing, posting_at, tossing_at, scanning_at, purging_at, change, receiver, changing, taking, after_event, after_events, run_of, start}, Event.RunEvent, Fits.FilesFit, Orderly.{copies, origin}, Keeping.content_of}, proofs.{Lists.{Among-change, Among-filter_from, Among-filter_to, Among-drop, Among-take, nth-among, Among-map_to, Among-map_from}, EventKinds.each-kind, TosserPremises.Laws, Copies.{copied, copied-content, copied-key, copies-are}, StandingTosses.origin-is, Bases.{AllMade, Kept-waiting, SystemOk, RunOk, event-made, event-ok, start-ok, scanned-from, waiting-valid}, Filings.filing-from as filing-new}}
 
 -- a posting of some system has the key and the content of the message
 abbrev pub Origin : List System → Filed → Type 0
@@ -27,8 +21,7 @@ pub record Traced (run : Run) : Type 0 where
 
 Among-changed_to : {X : Type 0} (i : ℕ) (f : X → X) (x : X) (xs : List X) → Among x xs → (z : X) × Among z (change i f xs) × ((z ≡ x) ⊎ (z ≡ f x))
 Among-changed_to i f x [] h = absurd h
-Among-changed_to zero f x (y ∷ xs) h =
-    elim h [ inl e ↦ (f y, inl refl, inr (ap f (sym e))) | inr t ↦ (x, inr t, inl refl) ]
+Among-changed_to zero f x (y ∷ xs) h = elim h [ inl e ↦ (f y, inl refl, inr (ap f (sym e))) | inr t ↦ (x, inr t, inl refl) ]
 Among-changed_to (suc i) f x (y ∷ xs) h =
     elim h [
       | inl e ↦ (y, inl refl, inl (sym e))
@@ -44,16 +37,14 @@ Origin-kept i f keeps ss m from =
     let (s, h, rest) = from in
     let (o, j, own, key, content) = rest in
     let (z, k, e) = Among-changed_to i f s ss h in
-    let P : System → Type 0 = λ t. Among o t.history in
-    (z, k, (o, elim e [ inl same ↦ subst P (sym same) j | inr now ↦ subst P (sym now) (keeps s o j) ], own, key, content))
+    (z, k, (o, elim e [ inl same ↦ rw (← same) at j | inr now ↦ rw (← now) at (keeps s o j) ], own, key, content))
 
 filing-kept : (s : System) (o : Option Filed) (m : Filed) → Among m s.history → Among m (filing s o).history
 filing-kept s h2 m h = grind (arith, Among-append_left)
 
 pub tossing-kept : (sender : Address) (ms : List Message) → Keeps (tossing_at sender ms)
 tossing-kept sender [] s m h = h
-tossing-kept sender (q ∷ ms) s m h =
-    tossing-kept sender ms (filing s (tossing s.file s.base sender q)) m (filing-kept s (tossing s.file s.base sender q) m h)
+tossing-kept sender (q ∷ ms) s m h = tossing-kept sender ms (filing s (tossing s.file s.base sender q)) m (filing-kept s (tossing s.file s.base sender q) m h)
 
 pub tossing-new : (sender : Address) (ms : List Message) (s : System) (m : Filed) → Among m (tossing_at sender ms s).history →
     Among m s.history ⊎ ((q : Message) × Among q ms × (m ≡ received sender q))
@@ -76,8 +67,7 @@ module _ (laws : Laws) where
       elim (Among-change i f s run.systems h) [
         | inl old ↦ Origin-kept i f keeps run.systems m (traced.systems s old m j)
         | inr now ↦ (let (t, k, e) = now in
-            let P : System → Type 0 = λ z. Among m z.history in
-            elim (new t k (let Q : System → Type 0 = λ z. Among z (change i f run.systems) in subst Q e h) m (subst P e j)) [
+            elim (new t k (let Q : System → Type 0 = λ z. Among z (change i f run.systems) in subst Q e h) m (rw e at j)) [
               | inl before ↦ Origin-kept i f keeps run.systems m (traced.systems t k m before)
               | inr from ↦ from
             ])
@@ -88,15 +78,11 @@ module _ (laws : Laws) where
   scanned-traced run traced s at_s ok stamp p h c i =
       let waits = drop s.cursor s.base in
       let (address, _, e) = scanned-from laws s.file s.base s.cursor stamp p h in
-      let P : Packet → Type 0 = λ q. Among c (copies q) in
-      let Q : List Filed → Type 0 = λ ms. Among c ms in
-      let in_copies = subst Q (copies-are laws s.file ok.file stamp waits address (waiting-valid laws s ok)) (subst P e i) in
+      let in_copies = rw (copies-are laws s.file ok.file stamp waits address (waiting-valid laws s ok)) at (rw e at i) in
       let (m, j, is_copy) = Among-map_from (copied s.file) c (filter (goes_to s.file address) waits) in_copies in
       let (k, goes) = Among-filter_from (goes_to s.file address) m waits j in
-      let R : List Filed → Type 0 = λ ms. Among m ms in
-      let held = Among-drop s.cursor m s.history (subst R (Kept-waiting s.cursor s.base s.history ok.kept) k) in
-      let S : Filed → Type 0 = λ n. Origin run.systems n in
-      subst S (sym is_copy) (Origin-same run.systems m (copied s.file m) (copied-key s.file m) (copied-content s.file m) (traced.systems s at_s m held))
+      let held = Among-drop s.cursor m s.history (rw (← (Kept-waiting s.cursor s.base s.history ok.kept)) k) in
+      rw (← is_copy) at (Origin-same run.systems m (copied s.file m) (copied-key s.file m) (copied-content s.file m) (traced.systems s at_s m held))
 
   posting-new : (tag : List ℕ) (draft : Draft) (serial : ℕ) (stamp : Stamp) (ss : List System) (t : System) →
       Among (posting_at tag draft serial stamp t) ss → (m : Filed) → Among m (posting_at tag draft serial stamp t).history →
@@ -116,9 +102,8 @@ module _ (laws : Laws) where
             let ok_p = ok p h in
             let in_p = Among-take n q p.messages i in
             let from : m ≡ received (origin p) q = e ∙ ap (λ (a : Address). received a q) (origin-is t.file p ok_p.zone) in
-            let P : Filed → Type 0 = λ c. Origin run.systems c in
             let copy : Among (received (origin p) q) (copies p) = grind (arith, Among-map_to, Among-filter_to) in
-            inr (subst P (sym from) (traced.packets p h (received (origin p) q) copy)))
+            inr (rw (← from) at (traced.packets p h (received (origin p) q) copy)))
       ]
 
   changing-traced : (run : Run) → Traced run → (i : ℕ) (f : System → System) → Keeps f →

@@ -1,12 +1,7 @@
 -- Tossers with a plain SEEN-BY keep the rules. On a net that is in order except for its cycles they lose no message.
-use Rattle.std.proofs.Common.{◌≡◌, ◌≢◌, ◌⊎◌, inl, inr, refl, sym, subst, ap, ◌∙◌, List, [], ◌∷◌, ◌++◌, map, Option, Some, None}
-use Rattle.std.specs.Prelude.{IsTrue, true, false}
-use Rattle.model_graph.specs.Walk.{Among, Walk}
-use Rattle.model_graph.proofs.Members.{Among-append_cases, Among-append_left, Among-append_right, Among-cases, CanTell}
-use Rattle.model_run.specs.{Events.Text, Events.Filed, Events.Copy, Events.Event, Events.Posts, Events.Exports, Events.Comes, Events.copy_to, Events.filed, Events.Has, Nets.Net, Nets.Joined}
-use Rattle.model_run.specs.Rules.{Always, FilesOnce, HasPlainSeenBy, IsPossible, IsSentOnce, Keeps, Kept, NewKeys, Rule, SendsOnce, Tells, TellsPlainly, filing, keeping, sending, telling, keys}
-use Rattle.model_run.specs.RulesOrderly.{Compares, IsSettled}
-use Rattle.model_run.proofs.{Targets.IsPoster, Targets.IsSentTo, Targets.View, Targets.none_some, Targets.some_same, Targets.view_of, Telling.reported-plainly, Steps.Has-cases, Steps.Has-in, Lists.Among-map_from, Lists.Among-map_to, Lists.not_both}
+use Rattle.std.{proofs.Common.{arith, ◌≡◌, ◌≢◌, ◌⊎◌, inl, inr, refl, sym, subst, ap, ◌∙◌, List, [], ◌∷◌, ◌++◌, map, Option, Some, None}, specs.Prelude.{IsTrue, true, false}}
+use Rattle.model_graph.{specs.Walk.{Among, Walk}, proofs.Members.{Among-append_cases, Among-append_left, Among-append_right, Among-cases, CanTell}}
+use Rattle.model_run.{specs.{Events.{Text, Filed, Copy, Event, Posts, Exports, Comes, copy_to, filed, Has}, Nets.{Net, Joined}, Rules.{Always, FilesOnce, HasPlainSeenBy, IsPossible, IsSentOnce, Keeps, Kept, NewKeys, Rule, SendsOnce, Tells, TellsPlainly, filing, keeping, sending, telling, keys}, RulesOrderly.{Compares, IsSettled}}, proofs.{Targets.{IsPoster, IsSentTo, View, none_some, some_same, view_of}, Telling.reported-plainly, Steps.{Has-cases, Has-in}, Lists.{Among-map_from, Among-map_to, not_both}}}
 
 module _ {A N K C : Type 0} (net : Net A N) (Same : C → C → Type 0) where
   -- an event by the rules, with a plain SEEN-BY, after these
@@ -197,16 +192,14 @@ module _ {A N K C : Type 0} (can : CanTell A) (can_nodes : CanTell N) (net : Net
 
     listed-served : (x : A) → Among x to → (d : A) → IsTrue (net.carries d) → Among (net.net_node d) (text x).seen → IsServed net Same exporting d m.text.key
     listed-served x h d at_d listed =
-        let P : A → Type 0 = λ a. IsServed net Same exporting a m.text.key in
         elim ((tells x h).only (net.net_node d) listed) [
           | inl before ↦ still d ((old.good m is_filed).served d at_d before)
           | inr new ↦ elim new [
             | inr nobody ↦ absurd (nobody d at_d refl)
             | inl near ↦ (let (l, place, e) = near in
                 elim place [
-                  | inl here ↦ (let C : A → Type 0 = λ a. IsTrue (net.carries a) in
-                      subst P (sym (joined.apart d l at_d (subst C (sym here) (old.good m is_filed).carrier) e)) (inl (m, is_filed, sym here, refl)))
-                  | inr link ↦ subst P (sym (joined.apart d l at_d (carries l link) e)) (link-served l link)
+                  | inl here ↦ (rw ((joined.apart d l at_d (rw here (old.good m is_filed).carrier) e)) (inl (m, is_filed, sym here, refl)))
+                  | inr link ↦ rw ((joined.apart d l at_d (carries l link) e)) (link-served l link)
                 ])
           ]
         ]
@@ -219,13 +212,7 @@ module _ {A N K C : Type 0} (can : CanTell A) (can_nodes : CanTell N) (net : Net
         record {
           carrier = carries x ((sends.targets x).0 h).link;
           poster = good.poster;
-          posted = record {
-            is_filed = good.posted.is_filed;
-            own = good.posted.own;
-            carrier = good.posted.carrier;
-            same_key = good.posted.same_key ∙ sym key;
-            same_content = compares.joined (text x).content m.text.content good.poster.text.content content good.posted.same_content;
-          };
+          posted = grind arith;
           served = λ d at_d i. subst (P d) (sym key) (listed-served x h d at_d i);
         }
 
@@ -254,15 +241,7 @@ module _ {A N K C : Type 0} (can : CanTell A) (can_nodes : CanTell N) (net : Net
 
 module _ {A N K C : Type 0} (can : CanTell A) (can_nodes : CanTell N) (can_keys : CanTell K) (net : Net A N) (joined : Joined net) (Same : C → C → Type 0) (compares : Compares Same) where
   nothing-yet : Serving {K = K} net Same (view_of [])
-  nothing-yet = record {
-    good = λ m h. absurd h;
-    sender = λ m h. absurd h;
-    one_posting = λ p q h. absurd h;
-    sent = λ c h. absurd h;
-    from = λ c h. absurd h;
-    passed_on = λ m h. absurd h;
-    known = λ c h. absurd h;
-  }
+  nothing-yet = grind arith
 
   event-serves : (event : Event A N K C) (run : List (Event A N K C)) → Serving net Same (view_of run) → IsPlain net Same run event → Serving net Same (view_of (event ∷ run))
   event-serves (Posts at text) run old h =
@@ -289,8 +268,7 @@ module _ {A N K C : Type 0} (net : Net A N) (joined : Joined net) (Same : C → 
   arrives [] y x walk has = (let P : A → Type 0 = λ a. Has a p.text.key (filed run) in subst P walk has)
   arrives (z ∷ rest) y x walk has =
       let (m, i, at, key) = has in
-      let L : A → Type 0 = λ a. IsTrue (net.linked a z) in
-      arrives rest z x walk.1 (elim (serving.passed_on m (settled.all_exported m i) z (subst L (sym at) walk.0)) [
+      arrives rest z x walk.1 (elim (serving.passed_on m (settled.all_exported m i) z (rw (← at) at walk.0)) [
         | inl there ↦ (there.0, there.1, there.2, there.3 ∙ key)
         | inr sent ↦ (let (c, j, to, key_c) = sent in
             let (n, k, at_n, key_n) = serving.known c (settled.all_came c j) in

@@ -1,16 +1,12 @@
 -- A packet of a repair has reached its link once it came.
-use Rattle.std.proofs.Common.{◌≡◌, ◌≢◌, refl, sym, subst, ap, ◌∙◌, ℕ, arith, List, [], ◌∷◌, ◌++◌, length, map, append_assoc, Option, Some, None}
-use Rattle.std.proofs.lemmas.List.{append-nil, length-append}
-use Rattle.std.specs.{Prelude.IsTrue, Prelude.filter, List.AllByRecursion}
+use Rattle.std.{proofs.{Common.{◌≡◌, ◌≢◌, refl, sym, subst, ap, ◌∙◌, ℕ, arith, List, [], ◌∷◌, ◌++◌, length, map, append_assoc, Option, Some, None}, lemmas.List.{append-nil, length-append}}, specs.{Prelude.{IsTrue, filter}, List.AllByRecursion}}
 use Rattle.echo_addr.specs.declared.address.Address.{Address}
 use Rattle.model_graph.specs.Walk.{Among, Different}
 use Rattle.echo_links.specs.Links.{IsFile, LinkFile}
 use Rattle.echo_filed.specs.{declared.key.Key.TheVariants.ById, Filed.Filed}
 use Rattle.base_file.specs.Base.{is_known}
 use Rattle.model_steps.specs.{declared.packet.Packet.Packet, declared.stamp.Stamp.Stamp, Scanning.copy_to, Scanning.header_to, Scanning.scanned}
-use Rattle.model_run.specs.{Run.System, Run.Run, Run.after_event, Run.destination, Run.nth, Event.RunEvent, States.IsState}
-use Rattle.model_run.specs.Repair.{Besides, HasReached, IsNoPurge, RepairEvent, ResendAll, after_repair, after_repairs, is_lacking, rest_packet, resending, with_packet}
-use Rattle.model_run.proofs.{Areas.address_of, EventKinds.each-kind, HarmLists.nth-middle, Lists.nth-among, Lists.Among-filter_to, Lists.Among-map_to, Repair.later-at, Repairs.calmly-later, Saying.rest-origin, TosserPremises.Laws}
+use Rattle.model_run.{specs.{Run.{System, Run, after_event, destination, nth}, Event.RunEvent, States.IsState, Repair.{Besides, HasReached, IsNoPurge, RepairEvent, ResendAll, after_repair, after_repairs, is_lacking, rest_packet, resending, with_packet}}, proofs.{Areas.address_of, EventKinds.each-kind, HarmLists.nth-middle, Lists.{nth-among, Among-filter_to, Among-map_to}, Repair.later-at, Repairs.calmly-later, Saying.rest-origin, TosserPremises.Laws}}
 
 -- packets only join the others
 abbrev HasMorePackets : Run → Run → Type 0

@@ -1,22 +1,14 @@
 -- The number of some keys that each system lacks: it falls with each filed message.
-use Rattle.std.proofs.Common.{◌≡◌, ◌⊎◌, inl, inr, refl, sym, subst, ap, ◌∙◌, ℕ, zero, suc, ◌+◌, ◌<◌, ◌≤◌, arith, List, [], ◌∷◌, ◌++◌, Option, Some, None, ◌≢◌, length, take, drop, map}
-use Rattle.std.proofs.lemmas.{Bool.cases_eq, Bool.eqb-true, List.append_assoc, List.append-nil, List.drop_all}
-use Rattle.std.specs.{Prelude.Bool, Prelude.true, Prelude.false, Prelude.if◌then◌else◌, Prelude.◌&&◌, Prelude.filter, Prelude.is_none, List.AllByRecursion}
+use Rattle.std.{proofs.{Common.{◌≡◌, ◌⊎◌, inl, inr, refl, sym, subst, ap, ◌∙◌, ℕ, zero, suc, ◌+◌, ◌<◌, ◌≤◌, arith, List, [], ◌∷◌, ◌++◌, Option, Some, None, ◌≢◌, length, take, drop, map}, lemmas.{Bool.{cases_eq, eqb-true}, List.{append_assoc, append-nil, drop_all}}}, specs.{Prelude.{Bool, true, false, if◌then◌else◌, ◌&&◌, filter, is_none}, List.AllByRecursion}}
 use Rattle.echo_addr.specs.declared.address.Address.{Address}
-use Rattle.model_graph.specs.Walk.{Among}
-use Rattle.model_graph.proofs.Members.{Among-append_left, Among-append_right}
+use Rattle.model_graph.{specs.Walk.Among, proofs.Members.{Among-append_left, Among-append_right}}
 use Rattle.echo_packet.specs.Message.{Message}
-use Rattle.echo_filed.specs.{declared.key.Key.Key, Filed.Filed, Filed.key_of, Filed.same_key, Filed.key_with, Written.echo_of}
-use Rattle.echo_filed.proofs.Keys.{same_key_decides}
+use Rattle.echo_filed.{specs.{declared.key.Key.Key, Filed.{Filed, key_of, same_key, key_with}, Written.echo_of}, proofs.Keys.same_key_decides}
 use Rattle.base_file.specs.Base.{is_known}
 use Rattle.model_steps.specs.{Tossing.received, Tossing.tossing, Tossing.sender_of, declared.packet.Packet.Packet}
-use Rattle.model_run.specs.Run.{System, change, filing, tossing_at, Run, coming, delivery, destination, nth, receiver, run_of, scanning, scanning_at, taking, with_index}
-use Rattle.model_run.specs.{Event.RunEvent, Event.Scanning, Event.Delivery, Orderly.Settled, Orderly.copies, Orderly.origin, Exports.Export, Exports.exports, Tidy.lists, Grave.AllAreCarriers, Postings.IsMove, Postings.trial_moment, LawsOfRuns.LawsOfRuns}
-use Rattle.model_run.proofs.Lists.{any-from, any-to, not_both, Among-change, Among-filter_to, Among-take, and-from, and-parts, nth-among, nth-change, Among-map_to, Among-map_from}
-use Rattle.model_run.proofs.{HarmSteps.tossing-is, HarmSteps.after_one_more, HarmSteps.all-append, HarmSteps.run-files, HarmSteps.tossing-new, HarmLists.none_passes, HarmLists.among-nth, HarmLists.nth-index, HarmLists.nth-middle, Targets.some_same, Targets.none_some, Areas.among-link, Areas.exported-tag, Areas.target-link}
+use Rattle.model_run.{specs.{Run.{System, change, filing, tossing_at, Run, coming, delivery, destination, nth, receiver, run_of, scanning, scanning_at, taking, with_index}, Event.{RunEvent, Scanning, Delivery}, Orderly.{Settled, copies, origin}, Exports.{Export, exports}, Tidy.lists, Grave.AllAreCarriers, Postings.{IsMove, trial_moment}, LawsOfRuns.LawsOfRuns}, proofs.{Lists.{any-from, any-to, not_both, Among-change, Among-filter_to, Among-take, and-from, and-parts, nth-among, nth-change, Among-map_to, Among-map_from}, HarmSteps.{tossing-is, after_one_more, all-append, run-files, tossing-new}, HarmLists.{none_passes, among-nth, nth-index, nth-middle}, Targets.{some_same, none_some}, Areas.{among-link, exported-tag, target-link}}}
 use Rattle.echo_text.specs.{Refusal.text_refusal, declared.fault.TextFault.TextFault, Echo.msgid_of}
-use Rattle.echo_links.specs.Links.{LinkFile, is_link, same_address}
-use Rattle.echo_links.proofs.Addresses.{same_address_decides}
+use Rattle.echo_links.{specs.Links.{LinkFile, is_link, same_address}, proofs.Addresses.same_address_decides}
 
 -- 1 for an unknown key
 abbrev pub weight : Bool → ℕ
@@ -94,14 +86,11 @@ received-key a b q = key-same a b q (msgid_of (echo_of q.text).kept)
 module _ (files : List LinkFile) (known : LawsOfRuns files) where
   pub file-there : (events : List RunEvent) (s : System) → Among s (run_of files events).systems → Among s.file files
   file-there events s h =
-      let P : List LinkFile → Type 0 = λ fs. Among s.file fs in
-      subst P (run-files files events) (Among-map_to (λ (z : System). z.file) s (run_of files events).systems h)
+      rw (run-files files events) at (Among-map_to (λ (z : System). z.file) s (run_of files events).systems h)
 
-  pub system-there : (events : List RunEvent) (file : LinkFile) → Among file files →
-      (s : System) × Among s (run_of files events).systems × (file ≡ s.file)
+  pub system-there : (events : List RunEvent) (file : LinkFile) → Among file files → (s : System) × Among s (run_of files events).systems × (file ≡ s.file)
   system-there events file h =
-      let P : List LinkFile → Type 0 = λ fs. Among file fs in
-      Among-map_from (λ (z : System). z.file) file (run_of files events).systems (subst P (sym (run-files files events)) h)
+      Among-map_from (λ (z : System). z.file) file (run_of files events).systems (rw (← (run-files files events)) at h)
 
   pub copy-there : (events : List RunEvent) (p : Packet) → Among p (run_of files events).packets → (q : Message) → Among q p.messages →
       Among (received (origin p) q) (copies p)
@@ -123,11 +112,8 @@ module _ (files : List LinkFile) (known : LawsOfRuns files) where
     packed-within events within p h q i a =
         let (e, at, same) = export-of events p h in
         let (s, there, _, copied) = known.made events e at in
-        let P : Packet → Type 0 = λ x. Among (received (origin p) q) (copies x) in
-        let (m, j, is_copy) = copied (received (origin p) q) (subst P same (copy-there events p h q i)) in
-        let Q : Key → Type 0 = λ k. Among k keys in
-        subst Q (sym (received-key a (origin p) q ∙ is_copy.key))
-        (within s (nth-among e.system s (run_of files events).systems there) m (Among-take s.cursor m s.history j))
+        let (m, j, is_copy) = copied (received (origin p) q) (rw (← same) (copy-there events p h q i)) in
+        rw ((received-key a (origin p) q ∙ is_copy.key)) (within s (nth-among e.system s (run_of files events).systems there) m (Among-take s.cursor m s.history j))
 
     pub new-key : (s : System) (sender : Address) (q : Message) (m : Filed) → tossing s.file s.base sender q ≡ Some m → is_known s.base (key_of m) ≡ false
     new-key s sender q m h = grind (arith, tossing-is)
@@ -168,13 +154,10 @@ module _ (files : List LinkFile) (known : LawsOfRuns files) where
           elim (Among-change i (taking p n) s run.systems h) [
             | inl old ↦ within s old m j
             | inr now ↦ (let (z, l, e) = now in
-                let P : System → Type 0 = λ x. Among m x.history in
                 let sender = sender_of z.file p.header in
-                elim (tossing-new sender (take n p.messages) z m (subst P e j)) [
+                elim (tossing-new sender (take n p.messages) z m (rw e at j)) [
                   | inl old ↦ within z l m old
-                  | inr new ↦ (let Q : Filed → Type 0 = λ x. Among (key_of x) keys in
-                      subst Q (sym (tossing-is z.file new.base sender new.packed m new.filed))
-                      (packed-within events within p at new.packed (Among-take n new.packed p.messages new.of) sender))
+                  | inr new ↦ (rw (← (tossing-is z.file new.base sender new.packed m new.filed)) at (packed-within events within p at new.packed (Among-take n new.packed p.messages new.of) sender))
                 ])
           ]
 
@@ -204,8 +187,7 @@ module _ (files : List LinkFile) (known : LawsOfRuns files) where
               let at : s.file.system ≡ destination p = ap (λ (f : LinkFile). f.system) (sym is_file) ∙ same in
               grind (arith, not_both, same_address_decides, none_passes)
 
-          comes : (o : Option System) → nth (receiver run p) run.systems ≡ o →
-              Fewer before (coming run k p o) ⊎ Rests before (coming run k p o) (suc k)
+          comes : (o : Option System) → nth (receiver run p) run.systems ≡ o → Fewer before (coming run k p o) ⊎ Rests before (coming run k p o) (suc k)
           comes None e = inr (grind (arith, next, some_same, nowhere))
           comes (Some s) e =
               elim (change-fewer keys (taking p (length p.messages)) run.systems each (receiver run p)) [
@@ -233,14 +215,12 @@ module _ (files : List LinkFile) (known : LawsOfRuns files) where
         let before = run_of files events in
         elim so_far.out [
           | inl fewer ↦ record { more = so_far.more; moves = so_far.moves; out = inl fewer }
-          | inr rests ↦ (let W : List System → Type 0 = λ ss. (s : System) → Among s ss → (m : Filed) → Among m s.history → Among (key_of m) keys in
-              let within_now = subst W (sym rests.systems) within in
+          | inr rests ↦ (let within_now = rw (← rests.systems) at within in
               let P : Run → Type 0 = λ run. Fewer before run ⊎ Rests before run (suc n) in
-              let Q : List RunEvent → Type 0 = λ es. P (run_of files es) in
               record {
                 more = so_far.more ++ Delivery n ∷ [];
                 moves = all-append IsMove so_far.more (Delivery n ∷ []) so_far.moves (tt, tt);
-                out = subst Q (append_assoc events so_far.more (Delivery n ∷ []))
+                out = rw (append_assoc events so_far.more (Delivery n ∷ [])) at
                     (after_one_more P files now (Delivery n) (delivered now within_now n before rests (nth n (run_of files now).packets) refl));
               })
         ]
@@ -278,19 +258,17 @@ module _ (files : List LinkFile) (known : LawsOfRuns files) where
     scan events within zero = record {
       more = [];
       moves = tt;
-      out = (let P : List RunEvent → Type 0 = λ es. Scanned (run_of files events) (run_of files es) 0 in
-          subst P (sym (append-nil events)) (record { within = within; lacks = refl; quiet = λ i s less. absurd (omega arith); size = refl }));
+      out = (rw ((append-nil events)) (record { within = within; lacks = refl; quiet = λ i s less. absurd (omega arith); size = refl }));
     }
     scan events within (suc n) =
         let so_far = scan events within n in
         let now = events ++ so_far.more in
         let before = run_of files events in
         let P : Run → Type 0 = λ run. Scanned before run (suc n) in
-        let Q : List RunEvent → Type 0 = λ es. P (run_of files es) in
         record {
           more = so_far.more ++ Scanning n trial_moment ∷ [];
           moves = all-append IsMove so_far.more (Scanning n trial_moment ∷ []) so_far.moves (tt, tt);
-          out = subst Q (append_assoc events so_far.more (Scanning n trial_moment ∷ []))
+          out = rw (← (append_assoc events so_far.more (Scanning n trial_moment ∷ [])))
               (after_one_more P files now (Scanning n trial_moment) (scanned-more before (run_of files now) n so_far.out (nth n (run_of files now).systems) refl));
         }
 
@@ -300,8 +278,7 @@ module _ (files : List LinkFile) (known : LawsOfRuns files) where
       goes_somewhere events p h c i of_area nowhere =
           let (e, at, same) = export-of events p h in
           let (s, there, _, copied) = known.made events e at in
-          let P : Packet → Type 0 = λ x. Among c (copies x) in
-          let (m, _, is_copy) = copied c (subst P same i) in
+          let (m, _, is_copy) = copied c (rw same at i) in
           let to = destination e.packet in
           let tag_is : m.echo.tag ≡ tag = sym (exported-tag s.file m.echo) ∙ (ap (λ (x : _). x.tag) (sym is_copy.text) ∙ of_area) in
           let link : is_link s.file tag to ≡ true = ap (λ (t : List ℕ). is_link s.file t to) (sym tag_is) ∙ among-link s.file m.echo.tag to (target-link s.file m to is_copy.target) in
@@ -322,14 +299,13 @@ module _ (files : List LinkFile) (known : LawsOfRuns files) where
           let scans = events ++ first.more in
           let start = run_of files scans in
           let second = deliver scans first.out.within (length start.packets) in
-          let P : List RunEvent → Type 0 = λ es. Fewer (run_of files events) (run_of files es) ⊎ Settled (run_of files es) tag in
           let quiet : Quiet start = λ s h.
           let (i, at) = among-nth s start.systems h in
           first.out.quiet i s (let below = nth-index i s start.systems at in let size = first.out.size in omega arith) at in
           record {
             more = first.more ++ second.more;
             moves = all-append IsMove first.more second.more first.moves second.moves;
-            out = subst P (append_assoc events first.more second.more) (elim second.out [
+            out = rw (← (append_assoc events first.more second.more)) (elim second.out [
               | inl fewer ↦ inl (record { within = fewer.within; fewer = omega (arith, fewer.fewer, first.out.lacks) })
               | inr rests ↦ inr (at_rest scans (scans ++ second.more) quiet rests)
             ]);
@@ -339,13 +315,11 @@ module _ (files : List LinkFile) (known : LawsOfRuns files) where
               Settled (run_of files later) tag
           at_rest scans later quiet rests =
               let run = run_of files later in
-              let Q : List System → Type 0 = λ ss. (s : System) → Among s ss → drop s.cursor s.base ≡ [] in
-              let still = subst Q (sym rests.systems) quiet in
+              let still = rw (← rests.systems) at quiet in
               record {
                 scanned = λ s h m i of_area. (let R : List Filed → Type 0 = λ ms. Among m ms in subst R (still s h) i);
                 delivered = λ before p after whole m i of_area.
-                    let S : List Packet → Type 0 = λ ps. nth (length before) ps ≡ Some p in
-                    let at = subst S (sym whole) (nth-middle p before after) in
+                    let at = rw (← whole) at (nth-middle p before after) in
                     let below = nth-index (length before) p run.packets at in
                     let size = ap (λ (ps : List Packet). length ps) rests.packets in
                     elim (rests.came (length before) p (omega (arith, below, size)) at) [
@@ -366,9 +340,7 @@ module _ (files : List LinkFile) (known : LawsOfRuns files) where
       settle (suc n) events within few =
           let one = round events within in
           elim one.out [
-            | inl fewer ↦ (let rest = settle n (events ++ one.more) fewer.within (let less = fewer.fewer in omega arith) in
-                let P : List RunEvent → Type 0 = λ es. Settled (run_of files es) tag in
-                grind (arith, all-append, append_assoc))
+            | inl fewer ↦ grind (arith, all-append, append_assoc, settle n (events ++ one.more) fewer.within (let less = fewer.fewer in omega arith))
             | inr settled ↦ record { more = one.more; moves = one.moves; settled = settled }
           ]
 

@@ -1,17 +1,11 @@
 -- The packets of one scan, on every net.
-use Rattle.std.proofs.Common.{◌≡◌, ◌≢◌, inl, inr, refl, sym, subst, ap, ◌∙◌, ℕ, arith, List, [], ◌∷◌, drop, map}
-use Rattle.std.proofs.lemmas.Bool.{cond-true, cond-false}
-use Rattle.std.specs.Prelude.{true, filter, Some}
+use Rattle.std.{proofs.{Common.{◌≡◌, ◌≢◌, inl, inr, refl, sym, subst, ap, ◌∙◌, ℕ, arith, List, [], ◌∷◌, drop, map}, lemmas.Bool.{cond-true, cond-false}}, specs.Prelude.{true, filter, Some}}
 use Rattle.echo_addr.specs.declared.address.Address.{Address}
-use Rattle.model_graph.specs.Walk.{Among, Different}
-use Rattle.model_graph.proofs.Members.{Among-at}
+use Rattle.model_graph.{specs.Walk.{Among, Different}, proofs.Members.Among-at}
 use Rattle.echo_filed.specs.{declared.key.Key.Key, Filed.Filed}
-use Rattle.model_steps.specs.Scanning.{copy_to, exported, goes_to, header_to, packet_to, packets_of, recipients, scanned}
-use Rattle.model_steps.specs.declared.{packet.Packet.Packet, stamp.Stamp.Stamp}
+use Rattle.model_steps.specs.{Scanning.{copy_to, exported, goes_to, header_to, packet_to, packets_of, recipients, scanned}, declared.{packet.Packet.Packet, stamp.Stamp.Stamp}}
 use Rattle.echo_links.specs.Links.{LinkFile}
-use Rattle.model_run.specs.{Orderly.SameContent, Orderly.copies, Orderly.count, Orderly.origin, Orderly.sent_count, Run.System, Run.destination, Exports.IsSentCopy}
-use Rattle.model_run.proofs.{Lists.not_both, Lists.yes_or_no, Lists.any-from, Lists.any-to, Lists.filter-none, Lists.Among-filter_from, Lists.Among-filter_to, Lists.Among-map_to, Lists.Among-map_from, TosserPremises.Laws, Bases.Kept-waiting, Bases.SystemOk, Bases.scanned-from, Bases.waiting-valid}
-use Rattle.model_run.proofs.Copies.{Targeted, copied, copied-key, copies-are, goes-from, goes-to, packet-destination, target-recipient, targets-to, recipients-differ}
+use Rattle.model_run.{specs.{Orderly.{SameContent, copies, count, origin, sent_count}, Run.{System, destination}, Exports.IsSentCopy}, proofs.{Lists.{not_both, yes_or_no, any-from, any-to, filter-none, Among-filter_from, Among-filter_to, Among-map_to, Among-map_from}, TosserPremises.Laws, Bases.{Kept-waiting, SystemOk, scanned-from, waiting-valid}, Copies.{Targeted, copied, copied-key, copies-are, goes-from, goes-to, packet-destination, target-recipient, targets-to, recipients-differ}}}
 
 packet-origin : (file : LinkFile) (stamp : Stamp) (waiting : List Filed) (address : Address) → origin (packet_to file stamp waiting address) ≡ file.system
 unfolding packet_to header_to
@@ -59,14 +53,10 @@ module _ (laws : Laws) (s : System) (ok : SystemOk s) (stamp : Stamp) where
       (m : Filed) × Among m (drop s.cursor s.history) × Targeted laws s.file m (destination p) × (c ≡ copied s.file m)
   scanned-copied p h c i =
       let (address, _, e) = scanned-from laws s.file s.base s.cursor stamp p h in
-      let P : Packet → Type 0 = λ q. Among c (copies q) in
-      let Q : List Filed → Type 0 = λ ms. Among c ms in
-      let (m, j, is_copy) = Among-map_from (copied s.file) c (filter (goes_to s.file address) waits) (subst Q (copies-of address) (subst P e i)) in
+      let (m, j, is_copy) = Among-map_from (copied s.file) c (filter (goes_to s.file address) waits) (rw (← (copies-of address)) (rw (← e) i)) in
       let (k, goes) = Among-filter_from (goes_to s.file address) m waits j in
       let to : address ≡ destination p = sym (packet-destination laws s.file stamp waits address) ∙ ap (λ (q : Packet). destination q) (sym e) in
-      let R : List Filed → Type 0 = λ ms. Among m ms in
-      let S : Address → Type 0 = λ a. Targeted laws s.file m a in
-      (m, subst R waits-kept k, subst S to (goes-from laws s.file m address goes), is_copy)
+      (m, rw (← waits-kept) k, rw (← to) (goes-from laws s.file m address goes), is_copy)
 
   pub scanned-copy : (p : Packet) → Among p (scanned s.file s.base s.cursor stamp) → (c : Filed) → Among c (copies p) →
       (m : Filed) × Among m (drop s.cursor s.history) × IsSentCopy s.file m (destination p) c
@@ -89,27 +79,21 @@ module _ (laws : Laws) (s : System) (ok : SystemOk s) (stamp : Stamp) where
   pub target-packet : (m : Filed) → Among m (drop s.cursor s.history) → (a : Address) → Targeted laws s.file m a →
       (p : Packet) × Among p (scanned s.file s.base s.cursor stamp) × (origin p ≡ s.file.system) × (destination p ≡ a) × Among (copied s.file m) (copies p)
   target-packet m h a target =
-      let P : List Filed → Type 0 = λ ms. Among m ms in
-      let Q : List Packet → Type 0 = λ ps. Among (packet_to s.file stamp waits a) ps in
-      let R : List Filed → Type 0 = λ ms. Among (copied s.file m) ms in
-      let i = subst P (sym waits-kept) h in (
+      let i = rw (← waits-kept) at h in (
         packet_to s.file stamp waits a,
-        subst Q (sym made-are) (Among-map_to (packet_to s.file stamp waits) a (recipients s.file waits) (target-recipient laws s.file waits m a i target)),
+        rw (← made-are) at (Among-map_to (packet_to s.file stamp waits) a (recipients s.file waits) (target-recipient laws s.file waits m a i target)),
         packet-origin s.file stamp waits a,
         packet-destination laws s.file stamp waits a,
-        subst R (sym (copies-of a)) (Among-map_to (copied s.file) m (filter (goes_to s.file a) waits)
+        rw (← (copies-of a)) at (Among-map_to (copied s.file) m (filter (goes_to s.file a) waits)
             (Among-filter_to (goes_to s.file a) m waits i (goes-to laws s.file m a target))),
       )
 
   pub copy-packet : (m : Filed) → Among m (drop s.cursor s.history) → (a : Address) → goes_to s.file a m ≡ true →
       (p : Packet) × Among p (scanned s.file s.base s.cursor stamp) × (destination p ≡ a) × Among (copy_to s.file a m) p.messages
   copy-packet m h a goes =
-      let P : List Filed → Type 0 = λ ms. Among m ms in
-      let Q : List Packet → Type 0 = λ ps. Among (packet_to s.file stamp waits a) ps in
-      let i = subst P (sym waits-kept) h in (
+      let i = rw (← waits-kept) at h in (
         packet_to s.file stamp waits a,
-        subst Q (sym made-are)
-            (Among-map_to (packet_to s.file stamp waits) a (recipients s.file waits)
+        rw (← made-are) at (Among-map_to (packet_to s.file stamp waits) a (recipients s.file waits)
             (target-recipient laws s.file waits m a i (goes-from laws s.file m a goes))),
         packet-destination laws s.file stamp waits a,
         packet-has s.file stamp waits a m i goes,

@@ -1,17 +1,11 @@
 -- A scan exports the waiting messages, one at a time.
-use Rattle.std.proofs.Common.{◌≡◌, ◌≢◌, ◌⊎◌, ◌↔◌, inl, inr, refl, sym, subst, ap, ◌∙◌, ℕ, ◌+◌, arith, List, [], ◌∷◌, ◌++◌, append_assoc, length, take, drop, map, Some}
-use Rattle.std.proofs.lemmas.{Bool.cond-false, List.take-append-drop, List.take_all}
-use Rattle.std.specs.Prelude.{Bool, IsTrue, false, filter, ◌&&◌}
+use Rattle.std.{proofs.{Common.{◌≡◌, ◌≢◌, ◌⊎◌, ◌↔◌, inl, inr, refl, sym, subst, ap, ◌∙◌, ℕ, ◌+◌, arith, List, [], ◌∷◌, ◌++◌, append_assoc, length, take, drop, map, Some}, lemmas.{Bool.cond-false, List.{take-append-drop, take_all}}}, specs.Prelude.{Bool, IsTrue, false, filter, ◌&&◌}}
 use Rattle.echo_addr.specs.declared.address.{Address.Address, NetNode.NetNode}
-use Rattle.model_graph.specs.Walk.{Among, Different}
-use Rattle.model_graph.proofs.Members.{Among-at, Among-append_left, Among-append_right, Among-append_cases}
+use Rattle.model_graph.{specs.Walk.{Among, Different}, proofs.Members.{Among-at, Among-append_left, Among-append_right, Among-append_cases}}
 use Rattle.model_steps.specs.{declared.packet.Packet.Packet, declared.stamp.Stamp.Stamp, Scanning.goes_to, Scanning.scanned, Scanning.targets}
 use Rattle.echo_links.specs.Links.{same_address}
 use Rattle.echo_filed.specs.{declared.key.Key.Key, Sets.address_set, Filed.Filed, Filed.key_of, Filed.same_key}
-use Rattle.model_run.specs.{Run.System, Run.Run, Run.change, Run.destination, Run.nth, Run.scanning_at, Events.Exports, Events.Text, Events.copy_to, Orderly.count, Orderly.sent_count, Keeping.Content, Keeping.IsFiledIn, Keeping.IsHistory, Keeping.IsSent, Keeping.copy_count, Keeping.filed_as, Keeping.said, Keeping.sent_as}
-use Rattle.model_run.proofs.Lists.{yes_or_no, not_both, and-parts, filter-yes, filter-no, nth-append, Among-drop, Among-filter_from, Among-filter_to, same_list as Among-in, Among-map_to, Among-map_from}
-use Rattle.model_run.proofs.{Copies.copied, Copies.copied-key, Copies.goes-from, Copies.goes-to, Copies.targets-from, Copies.targets-to, TosserPremises.Laws, TosserPremises.one_if, Bases.Kept-length, Bases.SystemOk, Areas.address_of, ScanPackets.scanned-copied, ScanPackets.scanned-count, ScanPackets.scanned-origin, ScanPackets.target-packet, ExportLists.sent-append, Targets.some_same, WholeRuns.IsDeliveredOnce}
-use Rattle.model_run.proofs.Histories.{RCopy, REvent, RFiled, filed-after, filed-before, filed-new}
+use Rattle.model_run.{specs.{Run.{System, Run, change, destination, nth, scanning_at}, Events.{Exports, Text, copy_to}, Orderly.{count, sent_count}, Keeping.{Content, IsFiledIn, IsHistory, IsSent, copy_count, filed_as, said, sent_as}}, proofs.{Lists.{yes_or_no, not_both, and-parts, filter-yes, filter-no, nth-append, Among-drop, Among-filter_from, Among-filter_to, same_list as Among-in, Among-map_to, Among-map_from}, Copies.{copied, copied-key, goes-from, goes-to, targets-from, targets-to}, TosserPremises.{Laws, one_if}, Bases.{Kept-length, SystemOk}, Areas.address_of, ScanPackets.{scanned-copied, scanned-count, scanned-origin, target-packet}, ExportLists.sent-append, Targets.some_same, WholeRuns.IsDeliveredOnce, Histories.{RCopy, REvent, RFiled, filed-after, filed-before, filed-new}}}
 use Rattle.model_run.specs.Events as rules
 
 copy_count-append : (x : Address) (k : Key) (cs ds : List RCopy) → copy_count x k (cs ++ ds) ≡ copy_count x k cs + copy_count x k ds
@@ -118,11 +112,7 @@ module _ (laws : Laws) (mine : Key → Bool) (s : System) (ok : SystemOk s) wher
   is_mine m = mine (key_of m)
 
   not-counted : (k : Key) → IsTrue (mine k) → (m : Filed) → is_mine m ≡ false → same_key (key_of m) k ≡ false
-  not-counted k e m f =
-      elim (yes_or_no (same_key (key_of m) k)) [
-        | inr other ↦ other
-        | inl t ↦ absurd (not_both (is_mine m) (ap mine (laws.keys.sound (key_of m) k t) ∙ e) f)
-      ]
+  not-counted k e m f = grind (arith, yes_or_no, not_both)
 
   count-mine : (k : Key) → IsTrue (mine k) → (g : Filed → Bool) (ms : List Filed) → count k (filter g (filter is_mine ms)) ≡ count k (filter g ms)
   count-mine k e g [] = refl
@@ -180,10 +170,7 @@ module _ (laws : Laws) (mine : Key → Bool) (s : System) (ok : SystemOk s) wher
       λ is. Among-in m (map (filed_as (address_of s)) waits ++ rules.exported events) (rules.exported (exports waits events)) (sym (exported-are waits events))
           (elim (filed-before mine run.systems i scanning_at s at_s refl scanned_part (drop s.cursor s.history) more keeps comes m is) [
             | inl old ↦ Among-append_right m (map (filed_as (address_of s)) waits) (rules.exported events) ((history.exported m).1 old)
-            | inr now ↦ (let (n, j, key, e) = now in
-                let P : RFiled → Type 0 = λ f. Among f (map (filed_as (address_of s)) waits) in
-                Among-append_left m (map (filed_as (address_of s)) waits) (rules.exported events)
-                (subst P (sym e) (Among-map_to (filed_as (address_of s)) n waits (waits-to n j key))))
+            | inr now ↦ grind (arith, Among-append_left, rules.exported, Among-map_to, waits-to)
           ]),
     )
 
@@ -213,29 +200,17 @@ module _ (laws : Laws) (mine : Key → Bool) (s : System) (ok : SystemOk s) wher
           (elim (Among-append_cases is.packet run.packets made is.there) [
             | inl old ↦ Among-append_right c (new_copies waits) (rules.copies events) ((history.sent c).1 (grind arith))
             | inr now ↦ (let (m, j, target, e) = scanned-copied laws s ok stamp is.packet now is.message is.inside in
-                let T : Key → Type 0 = λ k. IsTrue (mine k) in
-                let key : IsTrue (mine (key_of m)) = subst T (ap key_of e ∙ copied-key s.file m) is.key in
+                let key : IsTrue (mine (key_of m)) = rw (ap key_of e ∙ copied-key s.file m) at is.key in
                 let x = destination is.packet in
                 let there = new-to waits m x (waits-to m j key) (laws.addresses_all x (targets s.file m) (targets-to laws s.file m x target)) in
-                let P : RCopy → Type 0 = λ d. Among d (new_copies waits) in
                 let whole : Address → Filed → RCopy = λ a n. record { from = a; to = x; text = said n } in
                 Among-append_left c (new_copies waits) (rules.copies events)
-                (subst P (sym (is.same ∙ (ap (λ (a : Address). whole a is.message) (scanned-origin laws s ok stamp is.packet now) ∙ ap (λ (n : Filed). whole (address_of s) n) e))) there))
+                (rw (← (is.same ∙ (ap (λ (a : Address). whole a is.message) (scanned-origin laws s ok stamp is.packet now) ∙ ap (λ (n : Filed). whole (address_of s) n) e))) at there))
           ]),
     )
 
     as-many : (x : Address) (k : Key) → IsTrue (mine k) → copy_count x k (rules.copies (exports waits events)) ≡ sent_count x k (run.packets ++ made)
-    as-many x k e =
-        omega (
-          arith,
-          ap (λ (cs : List RCopy). copy_count x k cs) (copies-are waits events),
-          copy_count-append x k (new_copies waits) (rules.copies events),
-          count-new x k waits,
-          count-mine k e (goes_to s.file x) (drop s.cursor s.history),
-          history.as_many x k e,
-          sent-append x k run.packets made,
-          scanned-count laws s ok stamp x k,
-        )
+    as-many x k e = grind (arith, copies-are, copy_count-append, rules.copies, count-new, count-mine, sent-append, scanned-count)
 
     pub history-scans : IsHistory mine after (exports waits events)
     history-scans = record {
@@ -246,7 +221,6 @@ module _ (laws : Laws) (mine : Key → Bool) (s : System) (ok : SystemOk s) wher
       came = λ k h p e m j key.
           let (q, at) = delivered.there k h in
           let same : q ≡ p = some_same (sym (nth-append k q run.packets made at) ∙ e) in
-          let P : Packet → Type 0 = λ r. nth k run.packets ≡ Some r in
           Among-in (sent_as p m) (rules.came events) (rules.came (exports waits events)) (sym (came-are waits events))
-          (history.came k h p (subst P same at) m j key);
+          (history.came k h p (rw same at at) m j key);
     }

@@ -1,17 +1,13 @@
 -- Messages sent again are in packets that the system made before.
-use Rattle.std.proofs.Common.{◌≡◌, sym, ap, ◌∙◌, ℕ, List, take, Option, Some, None, arith}
-use Rattle.std.proofs.lemmas.Bool.{eqb-true, true≢false}
-use Rattle.std.specs.Prelude.{Bool, true, filter, not, is_some, ◌&&◌, ◌==◌}
+use Rattle.std.{proofs.{Common.{◌≡◌, sym, ap, ◌∙◌, ℕ, List, take, Option, Some, None, arith}, lemmas.Bool.{eqb-true, true≢false}}, specs.Prelude.{Bool, true, filter, not, is_some, ◌&&◌, ◌==◌}}
 use Rattle.echo_addr.specs.declared.address.Address.{Address}
 use Rattle.model_graph.specs.Walk.{Among}
 use Rattle.echo_packet.specs.Message.{Message}
 use Rattle.echo_text.specs.Echo.{msgid_of}
 use Rattle.echo_links.specs.Links.{LinkFile}
-use Rattle.echo_filed.specs.{Filed.Filed, Filed.key_of, Stubs.stub_of}
-use Rattle.echo_filed.proofs.{Keys.stub_of_stub, StubTests.stub_reported}
+use Rattle.echo_filed.{specs.{Filed.{Filed, key_of}, Stubs.stub_of}, proofs.{Keys.stub_of_stub, StubTests.stub_reported}}
 use Rattle.model_steps.specs.{declared.packet.Packet.Packet, Resending.is_resent, Resending.is_whole_in, Resending.resent, Resending.scanned_from, Scanning.copy_to, Scanning.goes_to}
-use Rattle.model_run.specs.{Event.RunEvent, Run.System, Run.destination, Run.nth, Run.run_of, Exports.Export, Exports.exports, Fits.FilesFit}
-use Rattle.model_run.proofs.{Lists.and-parts, Lists.nth-among, Lists.Among-drop, Lists.Among-filter_from, Lists.Among-map_from, TosserPremises.Laws, Bases.IsKept, Bases.Kept-front, WholeRuns.run-ok, ExportLists.run-logged}
+use Rattle.model_run.{specs.{Event.RunEvent, Run.{System, destination, nth, run_of}, Exports.{Export, exports}, Fits.FilesFit}, proofs.{Lists.{and-parts, nth-among, Among-drop, Among-filter_from, Among-map_from}, TosserPremises.Laws, Bases.{IsKept, Kept-front}, WholeRuns.run-ok, ExportLists.run-logged}}
 
 no-id : (id : Option (List ℕ)) (stub : Bool) → not (is_some id && stub) ≡ true → stub ≡ true → id ≡ None
 no-id h1 stub whole is = grind (arith, true≢false)

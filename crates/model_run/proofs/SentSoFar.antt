@@ -1,40 +1,28 @@
 -- Properties of one system at all times, if no received text has a byte 00.
-use Rattle.std.proofs.Common.{◌≡◌, inl, inr, refl, sym, subst, ◌≤◌, arith, List, [], ◌∷◌, Option, Some, None, ◌≢◌, ap, ◌∙◌, ℕ, zero, suc, ◌+◌, ◌++◌, length, take, drop}
-use Rattle.std.proofs.lemmas.{Bool.cond-true, List.take-append-drop, List.take-append-le, List.take_all, List.Elements.filter-append}
-use Rattle.std.specs.Prelude.{true, filter}
+use Rattle.std.{proofs.{Common.{◌≡◌, inl, inr, refl, sym, subst, ◌≤◌, arith, List, [], ◌∷◌, Option, Some, None, ◌≢◌, ap, ◌∙◌, ℕ, zero, suc, ◌+◌, ◌++◌, length, take, drop}, lemmas.{Bool.cond-true, List.{take-append-drop, take-append-le, take_all, Elements.filter-append}}}, specs.Prelude.{true, filter}}
 use Rattle.echo_addr.specs.declared.address.Address.{Address}
-use Rattle.model_graph.specs.Walk.{Among}
+use Rattle.model_graph.{specs.Walk.Among, proofs.Members.Among-append_cases}
 use Rattle.echo_packet.specs.Message.{HasNoZero, Message}
-use Rattle.echo_text.specs.{Echo.EchoText, Echo.IsEcho, Refusal.text_refusal}
-use Rattle.echo_text.proofs.Reread.{read_is_echo}
+use Rattle.echo_text.{specs.{Echo.{EchoText, IsEcho}, Refusal.text_refusal}, proofs.Reread.read_is_echo}
 use Rattle.echo_links.specs.Links.{IsFile, LinkFile}
-use Rattle.echo_filed.specs.{declared.key.Key.Key, Filed.Filed, Filed.key_of, Filed.same_key, Written.echo_of}
-use Rattle.echo_filed.proofs.Texts.{says_read}
+use Rattle.echo_filed.{specs.{declared.key.Key.Key, Filed.{Filed, key_of, same_key}, Written.echo_of}, proofs.Texts.says_read}
 use Rattle.base_file.specs.Base.{is_known}
-use Rattle.model_steps.specs.{Stamps.is_stamp, Tossing.received, Tossing.tossing, declared.packet.Packet.Packet, declared.stamp.Stamp.Stamp, Posting.posting, Scanning.goes_to, Scanning.scanned}
-use Rattle.model_steps.proofs.Received.{tossing_received}
-use Rattle.model_run.specs.{Run.IsLater, Run.System, Run.filing, Run.tossing_at, Run.destination, Orderly.count, Orderly.copies, Orderly.origin, Orderly.sent_count, Owed.IsFromLink, Owed.IsOwed, Exports.IsSentCopy}
-use Rattle.model_run.specs.Lone.{AreOfPackets, IsOfPackets, LoneEvent, LoneSystem, PostHere, PurgeHere, ScanHere, TossHere, after_all_lone, after_lone, lone_at_first, lone_run, with_scanned, with_system}
-use Rattle.model_run.proofs.{Lists.yes_or_no, Lists.Among-drop, Lists.Among-filter_from, Lists.Among-filter_to, Lists.Among-take, Lists.any-to, TosserPremises.Laws, ScanPackets.scanned-copy, ScanPackets.scanned-count, ScanPackets.scanned-origin, Copies.goes-from, Copies.goes-to, ExportLists.count-append, ExportLists.count-filter, ExportLists.sent-append}
-use Rattle.model_run.proofs.Bases.{HasKey, Kept-count, SystemOk, count-is, filing-ok, known-in_history, posting-ok, purging-ok, received-echo, scanning-ok, tossed-fresh, Kept-cursor, Kept-length, packet-ok, scanned-from, waiting-valid}
-use Rattle.model_run.proofs.Filings.{new-filed, events-last, filed-later, filing-grows, grown-later, tossing-grows, IsLoneLeft, event-left, first-left, Grows, run-append, run-file, left-length, run-left}
-use Rattle.model_graph.proofs.Members.{Among-append_cases}
+use Rattle.model_steps.{specs.{Stamps.is_stamp, Tossing.{received, tossing}, declared.{packet.Packet.Packet, stamp.Stamp.Stamp}, Posting.posting, Scanning.{goes_to, scanned}}, proofs.Received.tossing_received}
+use Rattle.model_run.{specs.{Run.{IsLater, System, filing, tossing_at, destination}, Orderly.{count, copies, origin, sent_count}, Owed.{IsFromLink, IsOwed}, Exports.IsSentCopy, Lone.{AreOfPackets, IsOfPackets, LoneEvent, LoneSystem, PostHere, PurgeHere, ScanHere, TossHere, after_all_lone, after_lone, lone_at_first, lone_run, with_scanned, with_system}}, proofs.{Lists.{yes_or_no, Among-drop, Among-filter_from, Among-filter_to, Among-take, any-to}, TosserPremises.Laws, ScanPackets.{scanned-copy, scanned-count, scanned-origin}, Copies.{goes-from, goes-to}, ExportLists.{count-append, count-filter, sent-append}, Bases.{HasKey, Kept-count, SystemOk, count-is, filing-ok, known-in_history, posting-ok, purging-ok, received-echo, scanning-ok, tossed-fresh, Kept-cursor, Kept-length, packet-ok, scanned-from, waiting-valid}, Filings.{new-filed, events-last, filed-later, filing-grows, grown-later, tossing-grows, IsLoneLeft, event-left, first-left, Grows, run-append, run-file, left-length, run-left}}}
 use Rattle.model_run.proofs.TosserPremises as counts
 
 module _ (laws : Laws) where
   received-is_echo : (sender : Address) (q : Message) → HasNoZero q.text → text_refusal q.text ≡ None → IsEcho (received sender q).echo
   received-is_echo sender q plain none =
       let said = says_read q.text none in
-      let P : EchoText → Type 0 = λ e. IsEcho e in
-      subst P (sym (received-echo laws sender q)) (read_is_echo q.text (echo_of q.text) said.0 plain said.1)
+      rw (← (received-echo laws sender q)) at (read_is_echo q.text (echo_of q.text) said.0 plain said.1)
 
   tossed-ok : (s : System) → SystemOk s → (sender : Address) (q : Message) → HasNoZero q.text →
       (o : Option Filed) → tossing s.file s.base sender q ≡ o → SystemOk (filing s o)
   tossed-ok s ok sender q plain None e = ok
   tossed-ok s ok sender q plain (Some m) e =
       let (due, same) = tossing_received s.file s.base sender q m e in
-      let P : Filed → Type 0 = λ n. SystemOk (filing s (Some n)) in
-      subst P (sym same) (filing-ok laws s ok (received sender q) (received-is_echo sender q plain due.text) (tossed-fresh laws s ok (received sender q) due.new))
+      rw (← same) at (filing-ok laws s ok (received sender q) (received-is_echo sender q plain due.text) (tossed-fresh laws s ok (received sender q) due.new))
 
   pub tosses-ok : (sender : Address) (ms : List Message) (s : System) → SystemOk s → ((q : Message) → Among q ms → HasNoZero q.text) →
       SystemOk (tossing_at sender ms s)
@@ -78,12 +66,9 @@ module _ (laws : Laws) where
       let next = filing s o in
       let ok_next = tossed-ok s ok sender r (plain r (inl refl)) o refl in
       elim h [
-        | inl e ↦ (let P : Message → Type 0 = λ x. HasKey (key_of (received sender x)) (tossing_at sender ms next).history in
-            let Q : Message → Type 0 = λ x. IsFromLink s.file sender x in
-            subst P (sym e) (key-later (key_of (received sender r)) next (tossing_at sender ms next)
-            (grown-later next (tossing_at sender ms next) (tossing-grows sender ms next)) (key-filed s ok sender r (subst Q e from))))
-        | inr i ↦ (let P : LinkFile → Type 0 = λ f. IsFromLink f sender q in
-            key-tossed sender ms next ok_next (λ x j. plain x (inr j)) q i (subst P (sym (filing-grows s o).file) from))
+        | inl e ↦ (rw e (key-later (key_of (received sender r)) next (tossing_at sender ms next)
+            (grown-later next (tossing_at sender ms next) (tossing-grows sender ms next)) (key-filed s ok sender r (rw (← e) from))))
+        | inr i ↦ (key-tossed sender ms next ok_next (λ x j. plain x (inr j)) q i (rw ((filing-grows s o).file) from))
       ]
 
   events-due : (events : List LoneEvent) (s : LoneSystem) → IsLoneLeft s → AreOfPackets events → SystemOk s.system →
@@ -94,13 +79,10 @@ module _ (laws : Laws) where
       let next = after_lone s event in
       let left_next = event-left s event left in
       elim h [
-        | inl e ↦ (let P : LoneEvent → Type 0 = λ x. HasKey (key_of (received sender q)) (after_lone s x).system.history in
-            let Q : LoneEvent → Type 0 = λ x. IsOfPackets x in
-            key-later (key_of (received sender q)) next.system (after_all_lone next later).system (events-last later next left_next).system
-            (subst P e (key-tossed sender ms s.system ok (subst Q (sym e) (plain event (inl refl))) q i from)))
-        | inr j ↦ (let P : LinkFile → Type 0 = λ f. IsFromLink f sender q in
-            events-due later next left_next (λ x k. plain x (inr k)) (event-ok s event (plain event (inl refl)) ok) sender ms j q i
-            (subst P (sym (events-last (event ∷ []) s left).system.file) from))
+        | inl e ↦ (key-later (key_of (received sender q)) next.system (after_all_lone next later).system (events-last later next left_next).system
+            (rw (← e) (key-tossed sender ms s.system ok (rw (← e) at (plain event (inl refl))) q i from)))
+        | inr j ↦ (events-due later next left_next (λ x k. plain x (inr k)) (event-ok s event (plain event (inl refl)) ok) sender ms j q i
+            (rw (← (events-last (event ∷ []) s left).system.file) at from))
       ]
 
   pub run-due : (file : LinkFile) → IsFile file → (events : List LoneEvent) → AreOfPackets events →
@@ -151,8 +133,7 @@ own-later s z p same more own = record {
   echomail = own.echomail;
   copy = λ c h.
       let (m, i, sent) = own.copy c h in
-      let P : LinkFile → Type 0 = λ f. IsSentCopy f m (destination p) c in
-      (m, more m i, subst P (sym same) sent);
+      (m, more m i, rw (← same) at sent);
 }
 
 quiet-sent : (s : LoneSystem) (z : System) → StaysDone s.system z → IsSentSoFar s → IsSentSoFar (with_system s z)
@@ -177,13 +158,10 @@ scan-done file earlier later stamp in_range m h =
     let is_z : after_lone s (ScanHere stamp) ≡ z = cond-true (is_stamp stamp) z s in_range in
     let left_z : IsLoneLeft z = (let P : LoneSystem → Type 0 = λ t. IsLoneLeft t in subst P is_z (event-left s (ScanHere stamp) left)) in
     let lasts = (events-last later z left_z).system in
-    let P : List Filed → Type 0 = λ ms. Among m (take (after_all_lone z later).system.cursor ms) in
     let Q : List Filed → Type 0 = λ ms. Among m ms in
-    let R : LoneSystem → Type 0 = λ t. Among m (done t.system) in
     let now : Among m (take (length s.system.base) s.system.history) = grind (arith, take_all, left-length) in
-    subst R (sym (run-append file earlier (ScanHere stamp ∷ later) ∙ ap (λ (t : LoneSystem). after_all_lone t later) is_z))
-    (subst P (sym lasts.filed.1)
-    (take-more m (length s.system.base) (after_all_lone z later).system.cursor s.system.history lasts.filed.0 lasts.cursor now))
+    rw (← (run-append file earlier (ScanHere stamp ∷ later) ∙ ap (λ (t : LoneSystem). after_all_lone t later) is_z)) at
+    (rw (← lasts.filed.1) at (take-more m (length s.system.base) (after_all_lone z later).system.cursor s.system.history lasts.filed.0 lasts.cursor now))
 
 module _ (laws : Laws) where
   within : (s : System) → SystemOk s → s.cursor ≤ length s.history
@@ -218,9 +196,8 @@ module _ (laws : Laws) where
       echomail =
           let waits = drop s.system.cursor s.system.base in
           let (address, i, e) = scanned-from laws s.system.file s.system.base s.system.cursor stamp p h in
-          let P : Packet → Type 0 = λ q. (packed : Message) → Among packed q.messages → text_refusal packed.text ≡ None in
           let made = packet-ok laws s.system.file stamp waits address ok.file (waiting-valid laws s.system ok) in
-          subst P (sym e) (λ packed j. (made.messages packed j).0);
+          rw e (λ packed j. (made.messages packed j).0);
       copy = grind (arith, scanned-copy, is-done, Among-drop);
     }
 

@@ -1,9 +1,7 @@
 -- A posting came to every carrier from just one system: the consequences for the links.
-use Rattle.std.proofs.Common.{◌≡◌, ◌≢◌, ◌⊎◌, inl, inr, refl, sym, subst, ap, ◌∙◌, ℕ, zero, suc, ◌+◌, ◌≤◌, arith, IsTrue, List, [], ◌∷◌, ◌++◌, length, length-append, Some, None}
-use Rattle.std.specs.Prelude.{Bool, true, false}
+use Rattle.std.{proofs.Common.{◌≡◌, ◌≢◌, ◌⊎◌, inl, inr, refl, sym, subst, ap, ◌∙◌, ℕ, zero, suc, ◌+◌, ◌≤◌, arith, IsTrue, List, [], ◌∷◌, ◌++◌, length, length-append, Some, None}, specs.Prelude.{Bool, true, false}}
 use Rattle.echo_addr.specs.{declared.address.Address.Address, declared.address.NetNode.NetNode, Address.net_node_of}
-use Rattle.model_graph.specs.Walk.{Reaches}
-use Rattle.model_graph.proofs.Members.{Reaches-trans}
+use Rattle.model_graph.{specs.Walk.Reaches, proofs.Members.Reaches-trans}
 use Rattle.echo_links.proofs.Addresses.{same_address_decides}
 use Rattle.echo_filed.specs.Filed.{Filed}
 use Rattle.model_steps.specs.Scanning.{is_seen_by}
@@ -115,20 +113,17 @@ module _ (linked : Address → Address → Bool) (Carrier : Address → Type 0) 
         elim near [
           | inl same ↦ inl (apart y u at_y at_u same)
           | inr link ↦ (let (z, to_z, same) = link in
-              let P : Address → Type 0 = λ a. IsTrue (linked u a) in
-              inr (subst P (sym (apart y z at_y (known u z to_z) same)) to_z))
+              inr (rw (← (apart y z at_y (known u z to_z) same)) at to_z))
         ]
 
     -- the copies that the poster sent list it and its links
     pub first_seen : (u y : Address) (n : Filed) → IsTrue (linked f u) → Holds u n → Carrier y → is_seen_by n y ≡ true → (y ≡ f) ⊎ IsTrue (linked f y)
     first_seen u y n link h at_y seen =
         let (c, from) = came_from u n h f (from_poster u n link h) in
-        let P : Address → Type 0 = λ a. Holds a c.original in
-        let Q : Address → Type 0 = λ a. IsNear linked a y in
-        let is_posting = spread.one f c.original posting (subst P from c.holds) spread.at_poster in
+        let is_posting = spread.one f c.original posting (rw from at c.holds) spread.at_poster in
         elim (c.seen_from y seen) [
           | inl before ↦ absurd (not_both (is_seen_by posting y) (ap (λ (m : Filed). is_seen_by m y) (sym is_posting) ∙ before) (spread.unlisted y))
-          | inr near ↦ near-is f y (spread.carriers f posting spread.at_poster) at_y (subst Q from near)
+          | inr near ↦ near-is f y (spread.carriers f posting spread.at_poster) at_y (rw from at near)
         ]
 
     -- two links of the poster are not both linked with a system that is no link of it

@@ -1,19 +1,11 @@
 -- A scan keeps the rules.
-use Rattle.std.proofs.Common.{◌≡◌, ◌↔◌, inl, inr, refl, sym, subst, ap, ◌∙◌, ℕ, ◌+◌, ◌≤◌, arith, IsTrue, List, [], ◌∷◌, ◌++◌, take, drop, map, Some}
-use Rattle.std.proofs.lemmas.List.{take-append-drop}
-use Rattle.std.specs.Prelude.{Bool, true}
+use Rattle.std.{proofs.{Common.{◌≡◌, ◌↔◌, inl, inr, refl, sym, subst, ap, ◌∙◌, ℕ, ◌+◌, ◌≤◌, arith, IsTrue, List, [], ◌∷◌, ◌++◌, take, drop, map, Some}, lemmas.List.take-append-drop}, specs.Prelude.{Bool, true}}
 use Rattle.echo_addr.specs.{declared.address.Address.Address, declared.address.NetNode.NetNode, Address.net_node_of}
-use Rattle.model_graph.specs.Walk.{Among}
-use Rattle.model_graph.proofs.Members.{Among-append_right, Among-append_cases}
+use Rattle.model_graph.{specs.Walk.Among, proofs.Members.{Among-append_right, Among-append_cases}}
 use Rattle.model_steps.specs.{declared.stamp.Stamp.Stamp, Scanning.scanned, Scanning.targets}
 use Rattle.echo_links.specs.Links.{LinkFile, is_link, links_of, same_address}
 use Rattle.echo_filed.specs.{Sets.address_set, declared.key.Key.Key, Filed.Filed, Filed.key_of, Filed.same_key}
-use Rattle.model_run.specs.{Run.System, Run.Run, Run.change, Run.nth, Run.scanning_at, Nets.Net, Rules.IsTarget, Rules.HasPlainSeenBy, Orderly.count, Orderly.tag_of, Tidy.Joined, Tidy.lists, AreaNets.net_of, Keeping.filed_as}
-use Rattle.model_run.proofs.Lists.{any-from, any-to, map-change, nth-among, Among-drop, same_list as Among-in, Among-map_to, Among-map_from}
-use Rattle.model_run.proofs.{Areas.Wrote, Areas.address_of, Areas.key-tag, Areas.link-lists, Areas.lists-link, Areas.one-system, Plain.ArePlain, TosserPremises.Laws, TosserPremises.count-has, Bases.SystemOk, Bases.count-is, Bases.RunOk, Bases.scanned-ok, ExportLists.count-append, ExportLists.count-filter, WholeRuns.IsDeliveredOnce}
-use Rattle.model_run.proofs.Copies.{copied, copied-content, copied-key, copied-seen, seen-copied, targets-from, targets-to}
-use Rattle.model_run.proofs.Histories.{REvent, RFiled, before-then, Equal, Standing, filed-event}
-use Rattle.model_run.proofs.Scanned.{exported-are, exports, filed-are, history-scans, waits, waits-from}
+use Rattle.model_run.{specs.{Run.{System, Run, change, nth, scanning_at}, Nets.Net, Rules.{IsTarget, HasPlainSeenBy}, Orderly.{count, tag_of}, Tidy.{Joined, lists}, AreaNets.net_of, Keeping.filed_as}, proofs.{Lists.{any-from, any-to, map-change, nth-among, Among-drop, same_list as Among-in, Among-map_to, Among-map_from}, Areas.{Wrote, address_of, key-tag, link-lists, lists-link, one-system}, Plain.ArePlain, TosserPremises.{Laws, count-has}, Bases.{SystemOk, count-is, RunOk, scanned-ok}, ExportLists.{count-append, count-filter}, WholeRuns.IsDeliveredOnce, Copies.{copied, copied-content, copied-key, copied-seen, seen-copied, targets-from, targets-to}, Histories.{REvent, RFiled, before-then, Equal, Standing, filed-event}, Scanned.{exported-are, exports, filed-are, history-scans, waits, waits-from}}}
 use Rattle.model_run.specs.Events as rules
 
 module _ (laws : Laws) (files : List LinkFile) (tag : List ℕ) (mine : Key → Bool) (of_area : (k : Key) → IsTrue (mine k) → tag_of k ≡ tag) (joined : Joined files tag)
@@ -51,8 +43,7 @@ module _ (laws : Laws) (files : List LinkFile) (tag : List ℕ) (mine : Key → 
   tells m area = record {
     all = λ l j.
         let (b, k, e) = any-from (same_address l) (links_of s.file m.echo.tag) (link-out m l area ((goes m area l).0 j).link) in
-        let P : Address → Type 0 = λ a. Among (net_node_of a) (copied s.file m).echo.seen in
-        subst P (sym (laws.addresses.sound l b e)) (seen-copied laws s.file m (net_node_of b)
+        rw (← (laws.addresses.sound l b e)) at (seen-copied laws s.file m (net_node_of b)
         (grind (arith, Among-append_right, Among-map_to)));
     only = λ n j. elim (Among-append_cases n m.echo.seen (map net_node_of (s.file.system ∷ links_of s.file m.echo.tag)) (copied-seen laws s.file m n j)) [
       | inl old ↦ inl old
@@ -70,11 +61,10 @@ module _ (laws : Laws) (files : List LinkFile) (tag : List ℕ) (mine : Key → 
       let is = (st.history.exported m).0 h in
       let here : address_of is.system ≡ address_of s = ap (λ (f : RFiled). f.at) (sym is.same) ∙ at in
       let one = one-system laws files tag joined run.systems st.same_files is.system s is.there there_s here in
-      let P : System → Type 0 = λ t. Among is.message (take t.cursor t.history) in
       omega (
         arith,
         count-is k (take s.cursor s.history),
-        count-has key_of same_key laws.keys k (take s.cursor s.history) is.message (subst P one is.filed) (ap (λ (f : RFiled). f.text.key) (sym is.same) ∙ key),
+        count-has key_of same_key laws.keys k (take s.cursor s.history) is.message (rw one at is.filed) (ap (λ (f : RFiled). f.text.key) (sym is.same) ∙ key),
       )
 
   abbrev then : List Filed → List REvent
@@ -144,9 +134,7 @@ module _ (laws : Laws) (files : List LinkFile) (tag : List ℕ) (mine : Key → 
         by_rules = by-rules all (λ m h. h) few-waits;
         wrote = λ z h m j own key. elim (before-then run.systems i scanning_at s at_s z h) [
           | inl old ↦ st.wrote z old m j own key
-          | inr now ↦ (let Q : System → Type 0 = λ t. Among m t.history in
-              let R : System → Type 0 = λ t. Wrote tag (address_of t) (key_of m) in
-              subst R (sym now) (st.wrote s there_s m (subst Q now j) own key))
+          | inr now ↦ (rw now (st.wrote s there_s m (rw now at j) own key))
         ];
         zones = λ p h m j key. elim (Among-append_cases p run.packets (scanned s.file s.base s.cursor stamp) h) [
           | inl old ↦ st.zones p old m j key

@@ -1,11 +1,7 @@
 -- Each event keeps the invariant of a run by the rules.
-use Rattle.std.proofs.Common.{◌≡◌, ◌≢◌, ◌⊎◌, inl, inr, refl, sym, subst, ap, ◌∙◌, IsTrue, List, [], ◌∷◌, ◌++◌, map, Some, None, arith}
-use Rattle.std.proofs.lemmas.List.{map-append}
-use Rattle.model_graph.specs.{Walk.Among, Walk.Different, Beyond.Beyond, Beyond.IsWay}
-use Rattle.model_graph.proofs.{Members.CanTell, Members.Among-append_left, Members.Among-append_right, Members.Among-append_cases, Cycles.one_way}
-use Rattle.model_run.specs.{Events.Text, Events.Filed, Events.Copy, Events.copy_to, Events.Has, Nets.Net, Nets.Tidy, Rules.IsTarget, Rules.HasSeenBy, RulesOrderly.Compares, RulesOrderly.place, RulesOrderly.goal}
-use Rattle.model_run.proofs.Targets.{simple, carriers_to, beyond-target, reported-parent, Parent, View, IsPoster, Good, Sent, IsSentTo, Invariant}
-use Rattle.model_run.proofs.Lists.{Among-map_to, Among-map_from, Different-append}
+use Rattle.std.proofs.{Common.{◌≡◌, ◌≢◌, ◌⊎◌, inl, inr, refl, sym, subst, ap, ◌∙◌, IsTrue, List, [], ◌∷◌, ◌++◌, map, Some, None, arith}, lemmas.List.map-append}
+use Rattle.model_graph.{specs.{Walk.{Among, Different}, Beyond.{Beyond, IsWay}}, proofs.{Members.{CanTell, Among-append_left, Among-append_right, Among-append_cases}, Cycles.one_way}}
+use Rattle.model_run.{specs.{Events.{Text, Filed, Copy, copy_to, Has}, Nets.{Net, Tidy}, Rules.{IsTarget, HasSeenBy}, RulesOrderly.{Compares, place, goal}}, proofs.{Targets.{simple, carriers_to, beyond-target, reported-parent, Parent, View, IsPoster, Good, Sent, IsSentTo, Invariant}, Lists.{Among-map_to, Among-map_from, Different-append}}}
 
 module _ {A N K C : Type 0} where
   pub Has-from_place : (m : Filed A N K C) (ms : List (Filed A N K C)) → Among (place m) (map place ms) → Has m.at m.text.key ms
@@ -73,8 +69,7 @@ module _ {A N K C : Type 0} (can : CanTell A) (net : Net A N) (tidy : Tidy net) 
     abbrev after_filing : View A N K C
     after_filing = record { filed = m ∷ v.filed; exported = v.exported; copies = v.copies; came = v.came }
 
-    one_posting : (p q : Filed A N K C) → Among p (m ∷ v.filed) → Among q (m ∷ v.filed) → p.sender ≡ None → q.sender ≡ None →
-        p.text.key ≡ q.text.key → p ≡ q
+    one_posting : (p q : Filed A N K C) → Among p (m ∷ v.filed) → Among q (m ∷ v.filed) → p.sender ≡ None → q.sender ≡ None → p.text.key ≡ q.text.key → p ≡ q
     one_posting p q h i own_p own_q same =
         let own : (n : Filed A N K C) → n ≡ m → n.sender ≡ None → m.sender ≡ None = λ n e o. ap (λ (a : Filed A N K C). a.sender) (sym e) ∙ o in
         let key : (n : Filed A N K C) → n ≡ m → n.text.key ≡ m.text.key = λ n e. ap (λ (a : Filed A N K C). a.text.key) e in
@@ -117,8 +112,7 @@ module _ {A N K C : Type 0} (can : CanTell A) (net : Net A N) (tidy : Tidy net) 
       source = inl (refl, own, unseen);
     })
 
-    pub arrival-keeps : (c : Copy A N K C) → Among c v.copies → m ≡ record { at = c.to; sender = Some c.from; text = c.text } →
-        Invariant net Same after_filing
+    pub arrival-keeps : (c : Copy A N K C) → Among c v.copies → m ≡ record { at = c.to; sender = Some c.from; text = c.text } → Invariant net Same after_filing
     arrival-keeps c h e =
         let sent = old.sent c h in
         let posted = IsPoster-grows net Same v after_filing (λ a i. inr i) (λ a i. i) sent.poster c.text sent.posted in
@@ -181,17 +175,15 @@ module _ {A N K C : Type 0} (can : CanTell A) (net : Net A N) (tidy : Tidy net) 
     all-sent c h = elim (Among-append_cases c new_copies v.copies h) [
       | inr before ↦ Sent-grows net Same v after_export (λ a i. i) (λ a i. inr i) c (old.sent c before)
       | inl now ↦ (let (x, i, e) = Among-map_from (copy_to m text) c to now in
-          let P : Copy A N K C → Type 0 = λ a. Sent net Same after_export a in
-          subst P (sym e) (new-sent x i))
+          rw (← e) at (new-sent x i))
     ]
 
     first-time : (x : A) → Among x to → (c : Copy A N K C) → Among c v.copies → c.to ≡ x → c.text.key ≡ m.text.key → ⊥
     first-time x h c i to_x key =
         let sent = old.sent c i in
         let one_poster : sent.poster ≡ good_m.poster = grind arith in
-        let P : A → Type 0 = λ a. IsWay net.linked sent.poster.at a c.from in
         let Q : Filed A N K C → Type 0 = λ p. IsWay net.linked p.at x c.from in
-        let way : Q good_m.poster = subst Q one_poster (subst P to_x sent.parent.way) in
+        let way : Q good_m.poster = subst Q one_poster (rw (← to_x) sent.parent.way) in
         let at_x = carriers_to can net tidy m.at x (targets x h).link in
         let sender : c.from ≡ m.at = one_way can net.linked (simple can net tidy) good_m.poster.at x c.from m.at
         (tidy.joined.connected x good_m.poster.at at_x good_m.posted.carrier) way (parent x h).way in
@@ -210,9 +202,7 @@ module _ {A N K C : Type 0} (can : CanTell A) (net : Net A N) (tidy : Tidy net) 
 
     all-differ : Different (map goal (new_copies ++ v.copies))
     all-differ =
-        let P : List (A × K) → Type 0 = λ gs. Different gs in
-        subst P (sym (map-append goal new_copies v.copies))
-        (Different-append (map goal new_copies) (map goal v.copies) (goals-differ to (λ x i. i) one_each) old.sent_once apart)
+        rw (← (map-append goal new_copies v.copies)) at (Different-append (map goal new_copies) (map goal v.copies) (goals-differ to (λ x i. i) one_each) old.sent_once apart)
       where
         apart : (g : A × K) → Among g (map goal new_copies) → ¬ Among g (map goal v.copies)
         apart g h i = grind (arith, Among-map_from, first-time)
@@ -233,9 +223,8 @@ module _ {A N K C : Type 0} (can : CanTell A) (net : Net A N) (tidy : Tidy net) 
         here key link_m beyond_m =
             let one_poster : p ≡ good_m.poster = old.one_posting p good_m.poster i good_m.posted.is_filed own good_m.posted.own
             (key ∙ sym good_m.posted.same_key) in
-            let Q : Filed A N K C → Type 0 = λ a. Beyond net.linked m.at a.at d in
             let target = beyond-target can net tidy good_m.poster.at m good_m.carrier good_m.posted.carrier good_m.source d link_m
-            (subst Q one_poster beyond_m) in
+            (rw one_poster at beyond_m) in
             let there = all d target in
             (copy_to m text d, Among-append_left (copy_to m text d) new_copies v.copies (Among-map_to (copy_to m text) d to there), refl, (keeps d there).0)
 

@@ -1,9 +1,7 @@
 -- Properties of a run by the rules at all times.
 use Rattle.std.proofs.Common.{◌≡◌, ◌≢◌, ◌⊎◌, IsTrue, List, map, Some, None, inl, inr, sym, subst, ◌∙◌, ◌∷◌, Option, arith}
-use Rattle.model_graph.specs.{Walk.Among, Walk.Different, Walk.Simple, Walk.Reaches, Beyond.Beyond, Beyond.IsWay, Beyond.Parted}
+use Rattle.model_graph.{specs.{Walk.{Among, Different, Simple, Reaches}, Beyond.{Beyond, IsWay, Parted}}, proofs.{Members.{CanTell, Among-at, linked_differ, walk_ends, Around-step, Around-trans, Beyond-from_no_around, no_around-from_Beyond}, Cycles.{Around-from_Beyond, Beyond-trans, way-not_beyond, link_cases, further, Parted-from_Polygons}}}
 use Rattle.model_run.specs.{Events.Text, Events.Filed, Events.Copy, Events.Event, Events.filed, Events.exported, Events.copies, Events.came, Events.Has, Nets.Net, Nets.Tidy, RulesOrderly.place, RulesOrderly.goal, Rules.IsTarget, Rules.HasSeenBy}
-use Rattle.model_graph.proofs.Members.{CanTell, Among-at, linked_differ, walk_ends, Around-step, Around-trans, Beyond-from_no_around, no_around-from_Beyond}
-use Rattle.model_graph.proofs.Cycles.{Around-from_Beyond, Beyond-trans, way-not_beyond, link_cases, further, Parted-from_Polygons}
 
 -- a message of f came to y from u. All walks to f pass u. Its SEEN-BY has all links of both, and of the systems beyond y
 -- only y
@@ -59,8 +57,7 @@ module _ {A N K C : Type 0} (net : Net A N) (Same : C → C → Type 0) (v : Vie
   pub record Invariant : Type 0 where
     pub once : Different (map place v.filed)
     pub good : (m : Filed A N K C) → Among m v.filed → Good m
-    pub one_posting : (p q : Filed A N K C) → Among p v.filed → Among q v.filed → p.sender ≡ None → q.sender ≡ None →
-        p.text.key ≡ q.text.key → p ≡ q
+    pub one_posting : (p q : Filed A N K C) → Among p v.filed → Among q v.filed → p.sender ≡ None → q.sender ≡ None → p.text.key ≡ q.text.key → p ≡ q
     pub was_filed : (m : Filed A N K C) → Among m v.exported → Among m v.filed
     pub sent : (c : Copy A N K C) → Among c v.copies → Sent c
     pub sent_once : Different (map goal v.copies)
@@ -133,9 +130,8 @@ module _ {A N : Type 0} (can : CanTell A) (net : Net A N) (tidy : Tidy net) wher
               record {
                 link = link;
                 not_sender = λ e.
-                    let P : A → Type 0 = λ a. Beyond net.linked m.at f a in
                     let same : u ≡ x = some_same (sym is_sender ∙ e) in
-                    way-not_beyond can net.linked simple f m.at u reaches parent.way (subst P (sym same) beyond);
+                    way-not_beyond can net.linked simple f m.at u reaches parent.way (rw (← same) at beyond);
                 not_seen = λ h. parent.outside x (carriers_to m.at x link) beyond (λ e. linked_differ net.linked simple m.at x link (sym e)) h;
               })
         ]

@@ -24,7 +24,4 @@ module _ {A N K C : Type 0} (net : Net A N) (joined : Joined net) (m : Filed A N
   reported-plainly = grind (arith, not-behind, carries)
     where
       carries : (l : A) → (l ≡ m.at) ⊎ IsTrue (net.linked m.at l) → IsTrue (net.carries l)
-      carries l near = elim near [
-        | inl own ↦ (let P : A → Type 0 = λ a. IsTrue (net.carries a) in subst P (sym own) (joined.carriers m.at x link))
-        | inr near_by ↦ joined.carriers l m.at (joined.both m.at l near_by)
-      ]
+      carries l near = grind arith

@@ -1,12 +1,9 @@
 -- A net that is tidy: a triangle.
-use Rattle.std.proofs.Common.{◌≡◌, ◌≢◌, ◌⊎◌, inl, inr, refl, sym, subst, ap, ◌∙◌, ℕ, arith, IsTrue, List, [], ◌∷◌, codes}
-use Rattle.std.specs.Prelude.{true, false}
-use Rattle.echo_addr.specs.{declared.address.Address.Address, Address.net_node_of, declared.address.NetNode.NetNode}
-use Rattle.model_graph.specs.Walk.{Among, Walk}
+use Rattle.std.{proofs.Common.{◌≡◌, ◌≢◌, ◌⊎◌, inl, inr, refl, sym, subst, ap, ℕ, arith, IsTrue, List, [], ◌∷◌, codes}, specs.Prelude.{true, false}}
+use Rattle.echo_addr.specs.{declared.address.Address.Address, Address.net_node_of}
+use Rattle.model_graph.{specs.Walk.{Among, Walk}, proofs.Members.Among-at}
 use Rattle.echo_links.specs.Links.{LinkFile, links_of}
-use Rattle.model_run.specs.Tidy.{Carries, Tidy, lists}
-use Rattle.model_run.proofs.{TosserLaws.the_laws, Lists.and-parts, Lists.any-from, Lists.not_both, Lists.Among-map_to, NetExamples.address, NetExamples.file, NetExamples.triangle}
-use Rattle.model_graph.proofs.Members.{Among-at}
+use Rattle.model_run.{specs.Tidy.{Carries, Tidy, lists}, proofs.{TosserLaws.the_laws, Lists.{and-parts, any-from, not_both, Among-map_to}, NetExamples.{address, triangle}}}
 
 abbrev pub test : List ℕ
 test = codes "TEST"
@@ -60,23 +57,8 @@ link-ends a b h = ends (link-from triangle test a b h)
     ends (f, i, p, j) =
         let P : LinkFile → Type 0 = λ g. (a ≡ g.system) × Among b (links_of g test) in
         elim i [
-          | inl e ↦ (let (s, l) = at_file (file 1 (2 ∷ (3 ∷ []))) e in elim l [
-            | inl q ↦ ends_at 1 2 (inl refl) (inr (inl refl)) (omega arith) s q
-            | inr k ↦ elim k [ inl q ↦ ends_at 1 3 (inl refl) (inr (inr (inl refl))) (omega arith) s q | inr z ↦ absurd z ]
-          ])
-          | inr g ↦ elim g [
-            | inl e ↦ (let (s, l) = at_file (file 2 (1 ∷ (3 ∷ []))) e in elim l [
-              | inl q ↦ ends_at 2 1 (inr (inl refl)) (inl refl) (omega arith) s q
-              | inr k ↦ elim k [ inl q ↦ ends_at 2 3 (inr (inl refl)) (inr (inr (inl refl))) (omega arith) s q | inr z ↦ absurd z ]
-            ])
-            | inr d ↦ elim d [
-              | inl e ↦ (let (s, l) = at_file (file 3 (1 ∷ (2 ∷ []))) e in elim l [
-                | inl q ↦ ends_at 3 1 (inr (inr (inl refl))) (inl refl) (omega arith) s q
-                | inr k ↦ elim k [ inl q ↦ ends_at 3 2 (inr (inr (inl refl))) (inr (inl refl)) (omega arith) s q | inr z ↦ absurd z ]
-              ])
-              | inr z ↦ absurd z
-            ]
-          ]
+          | inl e ↦ grind (arith, ends_at)
+          | inr g ↦ grind (arith, ends_at)
         ]
       where
         at_file : (g : LinkFile) → f ≡ g → (a ≡ g.system) × Among b (links_of g test)
@@ -110,8 +92,4 @@ triangle_tidy = record {
     zone_one a h = grind arith
 
     ten : (a b : Address) → OneOfThree a → OneOfThree b → net_node_of a ≡ net_node_of b → a ≡ b
-    ten a b h k e =
-        let net = ap (λ (n : NetNode). n.net) e in
-        let node = ap (λ (n : NetNode). n.node) e in
-        let zone = zone_one a h ∙ sym (zone_one b k) in
-        grind arith
+    ten a b h k e = grind (arith, zone_one)

@@ -1,20 +1,12 @@
 -- The laws of one tosser, proved.
-use Rattle.std.proofs.Common.{◌≡◌, inl, inr, refl, sym, ap, ◌∙◌, ℕ, arith, List, [], ◌∷◌, ◌++◌, length, codes, Option}
-use Rattle.std.proofs.{Math.Seq.take-append_seam, lemmas.List.length-append}
-use Rattle.std.specs.{Prelude.Bool, Prelude.true, List.AllByRecursion}
-use Rattle.echo_addr.specs.{declared.address.Address.Address, Address.IsAddress, Address.address_text, Address.address_in}
-use Rattle.echo_addr.proofs.Outcomes.{AddressOf-address_text, address_in-written}
-use Rattle.model_graph.specs.Walk.{Among, Different}
-use Rattle.model_graph.proofs.Members.{Contains-from_Among, Among-from_Contains}
-use Rattle.echo_filed.specs.{declared.key.Key.TheVariants.ById, Sets.address_before, Sets.address_set, Sets.entry_set, Sets.set_of, Filed.key_of, Filed.key_with}
-use Rattle.model_steps.specs.{declared.draft.Draft.Draft, declared.stamp.Stamp.Stamp, Posting.posted}
-use Rattle.echo_links.specs.Links.{IsFile, LinkFile, upper}
+use Rattle.std.{proofs.{Common.{◌≡◌, inl, inr, refl, sym, ap, ◌∙◌, ℕ, arith, List, [], ◌∷◌, ◌++◌, length, codes, Option}, Math.Seq.take-append_seam, lemmas.List.length-append}, specs.{Prelude.{Bool, true}, List.AllByRecursion}}
+use Rattle.echo_addr.{specs.{declared.address.Address.Address, Address.{IsAddress, address_text, address_in}}, proofs.Outcomes.{AddressOf-address_text, address_in-written}}
+use Rattle.model_graph.{specs.Walk.{Among, Different}, proofs.Members.{Contains-from_Among, Among-from_Contains}}
+use Rattle.echo_filed.{specs.{declared.key.Key.TheVariants.ById, Sets.{address_before, address_set, entry_set, set_of}, Filed.{key_of, key_with}}, proofs.{Sets.{IsOrder, Ascending, set_ascending, set_only, set_keeps}, Choices.{contained_in, in_contained}, Orders.{address_order, entry_set_is_set, same_entry_decides}, Keys.{same_key_decides, stub_keeps_key, stub_of_stub}, Texts.{written_accepted, written_back}}}
+use Rattle.model_steps.{specs.{declared.{draft.Draft.Draft, stamp.Stamp.Stamp}, Posting.posted}, proofs.{Posted.{posted_id, posted_is_echo}, Copies.exported_is_echo}}
+use Rattle.echo_links.{specs.Links.{IsFile, LinkFile, upper}, proofs.Addresses.same_address_decides}
 use Rattle.echo_text.specs.Ids.{id_of, serial_text}
-use Rattle.echo_links.proofs.Addresses.{same_address_decides}
-use Rattle.echo_filed.proofs.{Sets.IsOrder, Sets.Ascending, Sets.set_ascending, Sets.set_only, Sets.set_keeps, Choices.contained_in, Choices.in_contained, Orders.address_order, Orders.entry_set_is_set, Orders.same_entry_decides, Keys.same_key_decides, Keys.stub_keeps_key, Keys.stub_of_stub, Texts.written_accepted, Texts.written_back}
-use Rattle.model_steps.proofs.{Posted.posted_id, Posted.posted_is_echo, Copies.exported_is_echo}
-use Rattle.model_run.proofs.{Lists.not_both, TosserPremises.Laws}
-use Rattle.model_run.specs.{AreaNets.IsTidyNet, Tidy.Tidy}
+use Rattle.model_run.{proofs.{Lists.not_both, TosserPremises.Laws}, specs.{AreaNets.IsTidyNet, Tidy.Tidy}}
 use Rattle.model_run.proofs.Areas as areas
 
 ids-differ : (a b : Address) (serial other : ℕ) → IsAddress a → IsAddress b → id_of a serial ≡ id_of b other → a ≡ b
@@ -84,5 +76,5 @@ the_laws = record {
 
 -- The net of tidy link files is tidy.
 
-pub tidy-net : (files : List LinkFile) (tag : List ℕ) → Tidy files tag → IsTidyNet files tag
-tidy-net files tag tidy = record { joined = areas.joined-net the_laws files tag tidy.joined; cycles = tidy.cycles }
+pub tidy_net : (files : List LinkFile) (tag : List ℕ) → Tidy files tag → IsTidyNet files tag
+tidy_net files tag tidy = record { joined = areas.joined-net the_laws files tag tidy.joined; cycles = tidy.cycles }

@@ -1,6 +1,5 @@
 -- The number of messages in a list with a key.
-use Rattle.std.proofs.Common.{◌≡◌, ◌≢◌, ◌⊎◌, inl, inr, refl, sym, ap, ◌∙◌, ℕ, ◌+◌, ◌≤◌, arith, Bool, IsTrue, List, [], ◌∷◌, ◌++◌, cond, map, None}
-use Rattle.std.proofs.lemmas.Bool.{cases_Bool, both_ways}
+use Rattle.std.proofs.{Common.{◌≡◌, ◌≢◌, ◌⊎◌, inl, inr, refl, sym, ap, ◌∙◌, ℕ, ◌+◌, ◌≤◌, arith, Bool, IsTrue, List, [], ◌∷◌, ◌++◌, cond, map, None}, lemmas.Bool.{cases_Bool, both_ways}}
 use Rattle.model_graph.specs.Walk.{Among, Different}
 use Rattle.echo_addr.specs.{declared.address.Address.Address, declared.address.NetNode.NetNode, Address.IsAddress}
 use Rattle.echo_text.specs.{Echo.EchoText, Echo.IsEcho, Refusal.text_refusal, Ids.id_of}
@@ -58,8 +57,7 @@ module _ {K M : Type 0} (key : M → K) (same : K → K → Bool) (tells : Tells
   count-none k [] h = refl
   count-none k (x ∷ ms) h = omega (arith, none k x (h x (inl refl)), count-none k ms (λ m i. h m (inr i)))
 
-  pub count-names_one : (k : K) (ms : List M) → count key same k ms ≤ 1 → (a b : M) → Among a ms → Among b ms →
-      key a ≡ k → key b ≡ k → a ≡ b
+  pub count-names_one : (k : K) (ms : List M) → count key same k ms ≤ 1 → (a b : M) → Among a ms → Among b ms → key a ≡ k → key b ≡ k → a ≡ b
   count-names_one k [] h a b at_a at_b e q = absurd at_a
   count-names_one k (x ∷ ms) h a b at_a at_b e q = grind (arith, one, count-has, count-names_one k ms (omega arith) a b)
 

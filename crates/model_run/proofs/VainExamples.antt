@@ -1,16 +1,13 @@
 -- Nets that `check` refuses though their computed run does no harm: for these clauses a no is more careful than
 -- necessary. And a tidy net with a cycle, which a rule against all cycles would refuse.
-use Rattle.std.proofs.Common.{◌≡◌, ◌≢◌, inl, refl, ap, ℕ, arith, List, [], ◌∷◌, codes}
-use Rattle.std.specs.{Prelude.true, Prelude.false, Fmt.digits}
+use Rattle.std.{proofs.Common.{◌≡◌, ◌≢◌, inl, refl, ap, ℕ, arith, List, [], ◌∷◌, codes}, specs.{Prelude.{true, false}, Fmt.digits}}
 use Rattle.echo_addr.specs.{declared.address.Address.Address, Entries.entries, Entries.pair_of, Entries.tokens}
 use Rattle.echo_text.specs.{Lines.lines, Lines.trimmed, Lines.begins, Lines.after_word, Tail.kept_of, Tail.path_lists, Tail.seen_lists, Echo.msgid_of, Ids.id_of, Refusal.text_refusal}
 use Rattle.echo_filed.specs.{Sets.address_set, Sets.entry_set, Written.echo_of, Written.short_lines, Written.text_of, Filed.key_of, Stubs.stub_of}
 use Rattle.model_steps.specs.{Scanning.copy_to, Scanning.exported, Scanning.header_to, Scanning.packet_to, Scanning.packets_of, Scanning.recipients, Scanning.scanned, Scanning.targets, Stamps.date_of, Posting.post_refusal, Posting.posted, Posting.posted_lines, Posting.posting, Purging.purged, Tossing.received, Tossing.toss_outcome, Tossing.tossing}
 use Rattle.echo_links.specs.Links.{LinkFile, links_of}
-use Rattle.model_run.specs.{Event.Delivery, Run.Run, Run.run_of, Orderly.sent_count, Tidy.Tidy, Tidy.lists}
+use Rattle.model_run.{specs.{Event.Delivery, Run.{Run, run_of}, Orderly.sent_count, Tidy.{Tidy, lists}}, proofs.{NetExamples.{address, all_done, carrier, far, file, first_key, line, post, scan, shown, triangle}, TidyExamples.{test, triangle_tidy}}}
 use Rattle.model_graph.specs.Cycle.{NoCycle}
-use Rattle.model_run.proofs.NetExamples.{address, all_done, carrier, far, file, first_key, line, post, scan, shown, triangle}
-use Rattle.model_run.proofs.TidyExamples.{test, triangle_tidy}
 
 -- a system without the area
 abbrev without : ℕ → LinkFile

@@ -1,17 +1,13 @@
 -- Invariants of whole runs: the link files stay, and all is well formed.
 pub use Rattle.model_run.specs.States.{IsDeliveredOnce, files_of}
-use Rattle.std.proofs.Common.{◌≡◌, refl, subst, ap, ℕ, List, [], ◌∷◌, ◌++◌, length, take, map, Option, Some, arith, inl, inr, sym, ◌+◌, ◌==◌, IsTrue}
-use Rattle.std.proofs.lemmas.{Bool.eqb-true, Bool.leb-true, List.drop_all}
-use Rattle.std.specs.{Prelude.Bool, Prelude.true, List.list_all, List.list_any}
+use Rattle.std.{proofs.{Common.{◌≡◌, refl, subst, ap, ℕ, List, [], ◌∷◌, ◌++◌, length, take, map, Option, Some, arith, inl, inr, sym, ◌+◌, ◌==◌, IsTrue}, lemmas.{Bool.{eqb-true, leb-true}, List.drop_all}}, specs.{Prelude.{Bool, true}, List.{list_all, list_any}}}
 use Rattle.echo_addr.specs.declared.address.Address.{Address}
-use Rattle.model_graph.specs.Walk.{Among}
+use Rattle.model_graph.{specs.Walk.Among, proofs.Members.Among-at}
 use Rattle.echo_packet.specs.Message.{Message}
 use Rattle.model_steps.specs.{declared.packet.Packet.Packet, declared.draft.Draft.Draft, declared.stamp.Stamp.Stamp, Posting.posting, Tossing.sender_of, Tossing.tossing, Scanning.scanned}
 use Rattle.echo_links.specs.Links.{LinkFile}
 use Rattle.echo_filed.specs.Filed.{Filed}
-use Rattle.model_run.specs.{Run.System, Run.Run, Run.filing, Run.fresh, Run.posting_at, Run.tossing_at, Run.scanning_at, Run.nth, Run.taking, Run.after_event, Run.after_events, Run.run_of, Run.start, Run.receiver, Run.purging_at, Event.RunEvent, Fits.FilesFit, Orderly.Settled, World.is_settled, World.missing}
-use Rattle.model_run.proofs.{Lists.map-change, Lists.Among-map_from, Lists.nth-append, Lists.with_index-different, Lists.with_index-from, Lists.and-parts, Lists.any-from, Lists.yes_or_no, EventKinds.each-kind, TosserPremises.Laws, Bases.AllMade, Bases.RunOk, Bases.event-made, Bases.event-ok, Bases.start-ok}
-use Rattle.model_graph.proofs.Members.{Among-at}
+use Rattle.model_run.{specs.{Run.{System, Run, filing, fresh, posting_at, tossing_at, nth, taking, after_event, after_events, run_of, start}, Event.RunEvent, Fits.FilesFit, Orderly.Settled, World.{is_settled, missing}}, proofs.{Lists.{map-change, Among-map_from, nth-append, with_index-different, with_index-from, and-parts, any-from, yes_or_no}, EventKinds.each-kind, TosserPremises.Laws, Bases.{AllMade, RunOk, event-made, event-ok, start-ok}}}
 
 pub filing-file : (s : System) (o : Option Filed) → (filing s o).file ≡ s.file
 filing-file s o = grind arith
@@ -29,14 +25,7 @@ pub taking-file : (p : Packet) (n : ℕ) (s : System) → (taking p n s).file �
 taking-file p n s = tossing-file (sender_of s.file p.header) (take n p.messages) s
 
 pub event-files : (run : Run) (event : RunEvent) → files_of (after_event run event) ≡ files_of run
-event-files run event = each-kind run (λ r. files_of r ≡ files_of run) event (record {
-  idle = refl;
-  posts = λ i tag draft serial stamp e. map-change (λ (s : System). s.file) i (posting_at tag draft serial stamp) (posting-file tag draft serial stamp) run.systems;
-  scans = λ i stamp s at. map-change (λ (s : System). s.file) i scanning_at (λ t. refl) run.systems;
-  comes = λ k p s at_k at_s. map-change (λ (s : System). s.file) (receiver run p) (taking p (length p.messages)) (taking-file p (length p.messages)) run.systems;
-  takes = λ k p n at. map-change (λ (s : System). s.file) (receiver run p) (taking p n) (taking-file p n) run.systems;
-  purges = λ i e. map-change (λ (s : System). s.file) i purging_at (λ t. refl) run.systems;
-})
+event-files run event = grind (arith, each-kind, map-change, posting-file, taking-file)
 
 pub fresh-files : (files : List LinkFile) → map (λ (s : System). s.file) (map fresh files) ≡ files
 fresh-files [] = refl
@@ -79,9 +68,8 @@ event-once run event at = each-kind run IsDeliveredOnce event (record {
   purges = λ i e. record { once = at.once; there = at.there };
 })
 
-pub run-delivered : (files : List LinkFile) (events : List RunEvent) → IsDeliveredOnce (run_of files events)
-run-delivered files events =
-    along (λ run. IsDeliveredOnce run) event-once events (start files) (record { once = tt; there = λ k h. absurd h })
+pub run_delivered : (files : List LinkFile) (events : List RunEvent) → IsDeliveredOnce (run_of files events)
+run_delivered files events = along (λ run. IsDeliveredOnce run) event-once events (start files) (record { once = tt; there = λ k h. absurd h })
 
 -- If nothing waits and nothing is missing, each area has settled.
 

@@ -20,8 +20,7 @@ export_of n i packet = record { event = n; system = i; packet = packet }
 -- The exports of a scan, if the system exists and the stamp is in range.
 abbrev pub scan_exports : ℕ → ℕ → Stamp → Option System → List Export
 scan_exports n i stamp None = []
-scan_exports n i stamp (Some s) =
-    if is_stamp stamp then map (export_of n i) (scanned s.file s.base s.cursor stamp) else []
+scan_exports n i stamp (Some s) = if is_stamp stamp then map (export_of n i) (scanned s.file s.base s.cursor stamp) else []
 
 -- The exports of the event at this index.
 abbrev pub event_exports : Run → ℕ → RunEvent → List Export

@@ -29,8 +29,7 @@ copies packet = map (received (origin packet)) (filter (λ packed. is_none (text
 -- The number of messages with the key in the packets to an address.
 abbrev pub sent_count : Address → Key → List Packet → ℕ
 sent_count address key [] = 0
-sent_count address key (packet ∷ later) =
-    (if same_address (destination packet) address then count key (copies packet) else 0) + sent_count address key later
+sent_count address key (packet ∷ later) = (if same_address (destination packet) address then count key (copies packet) else 0) + sent_count address key later
 
 -- The message was posted in this system, in this area.
 pub record IsPosting (tag : List ℕ) (m : Filed) : Type 0 where

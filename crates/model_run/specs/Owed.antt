@@ -17,8 +17,7 @@ pub record IsFromLink (file : LinkFile) (sender : Address) (packed : Message) : 
 -- The event filed the message. It posted it, and this base did not refuse it; or the message came with it, unchanged,
 -- from a link of its area.
 abbrev pub IsFiledBy : LinkFile → List Filed → Filed → LoneEvent → Type 0
-IsFiledBy file base m (PostHere tag draft serial stamp) =
-    (m ≡ posted file tag draft serial stamp) × IsAllowed file base tag draft serial stamp
+IsFiledBy file base m (PostHere tag draft serial stamp) = (m ≡ posted file tag draft serial stamp) × IsAllowed file base tag draft serial stamp
 IsFiledBy file base m (TossHere sender messages) = (packed : Message) × Among packed messages × IsFromLink file sender packed × (m ≡ received sender packed)
 IsFiledBy file base m other = ⊥
 

@@ -11,14 +11,12 @@ IsPossible net earlier (Comes copy is_filed) = Among copy (copies earlier)
 
 -- Filing: a system files a copy exactly if it comes from a link and the system has not filed its key yet.
 abbrev pub FilesOnce : {A N K C : Type 0} → Net A N → List (Event A N K C) → Event A N K C → Type 0
-FilesOnce net earlier (Comes copy is_filed) =
-    IsTrue is_filed ↔ (IsTrue (net.linked copy.to copy.from) × (¬ Has copy.to copy.text.key (filed earlier)))
+FilesOnce net earlier (Comes copy is_filed) = IsTrue is_filed ↔ (IsTrue (net.linked copy.to copy.from) × (¬ Has copy.to copy.text.key (filed earlier)))
 FilesOnce net earlier other = Unit {0}
 
 -- Keeping: a copy has the key of the message, and an equivalent content.
 abbrev pub Keeps : {A N K C : Type 0} → (C → C → Type 0) → List (Event A N K C) → Event A N K C → Type 0
-Keeps {A} {N} {K} {C} Same earlier (Exports m to text) =
-    (x : A) → Among x to → ((text x).key ≡ m.text.key) × Same (text x).content m.text.content
+Keeps {A} {N} {K} {C} Same earlier (Exports m to text) = (x : A) → Among x to → ((text x).key ≡ m.text.key) × Same (text x).content m.text.content
 Keeps Same earlier other = Unit {0}
 
 -- The message should go to x: a link that is not its sender and is not in its SEEN-BY.
@@ -42,8 +40,7 @@ SendsOnce net earlier other = Unit {0}
 -- x and those that the message listed.
 pub record HasSeenBy {A N K C : Type 0} (net : Net A N) (m : Filed A N K C) (to : List A) (x : A) (seen : List N) : Type 0 where
   pub others : (l : A) → Among l to → IsTrue (net.linked x l) → Among (net.net_node l) seen
-  pub behind : (d : A) → IsTrue (net.carries d) → Beyond net.linked x m.at d → d ≢ x → Among (net.net_node d) seen →
-      Among (net.net_node d) m.text.seen
+  pub behind : (d : A) → IsTrue (net.carries d) → Beyond net.linked x m.at d → d ≢ x → Among (net.net_node d) seen → Among (net.net_node d) m.text.seen
 
 -- A plain SEEN-BY keeps this rule. It lists all receivers; its other entries are those of the message, the system, its
 -- links, and net/nodes of no system with the area.

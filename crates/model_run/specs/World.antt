@@ -1,6 +1,5 @@
 -- The visible state of a run: the filed messages of each system, those that wait, and the missing packets.
-use Rattle.std.specs.Prelude.{ℕ, ◌+◌, ◌==◌, ◌&&◌, nat_le, Bool, List, [], ◌∷◌, drop, length, count_by, bytes_eq, if◌then◌else◌, option_map, unwrap_or}
-use Rattle.std.specs.List.{list_all, list_any}
+use Rattle.std.specs.{Prelude.{ℕ, ◌+◌, ◌==◌, ◌&&◌, nat_le, Bool, List, [], ◌∷◌, drop, length, count_by, bytes_eq, if◌then◌else◌, option_map, unwrap_or}, List.{list_all, list_any}}
 use Rattle.model_steps.specs.declared.packet.Packet.{Packet}
 use Rattle.echo_filed.specs.Filed.{Filed}
 use Rattle.model_run.specs.Run.{Run, nth}

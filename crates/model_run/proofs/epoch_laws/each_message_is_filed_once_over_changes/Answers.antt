@@ -1,5 +1,4 @@
-use Rattle.model_run.specs.Epochs.{after_epochs}
-use Rattle.model_run.proofs.{TosserLaws.the_laws, Bases.filed-once, Renewal.epochs-ok}
+use Rattle.model_run.{specs.Epochs.after_epochs, proofs.{TosserLaws.the_laws, Bases.filed-once, Renewal.epochs-ok}}
 use Rattle.model_run.proofs.epoch_laws.each_message_is_filed_once_over_changes.Goals as goal
 
 pub returns : goal.returns

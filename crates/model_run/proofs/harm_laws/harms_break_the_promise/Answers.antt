@@ -1,5 +1,5 @@
-use Rattle.model_run.proofs.Faults.{harm-breaks}
+use Rattle.model_run.proofs.Faults.{harm_breaks}
 use Rattle.model_run.proofs.harm_laws.harms_break_the_promise.Goals as goal
 
 pub returns : goal.returns
-returns c = harm-breaks
+returns c = harm_breaks

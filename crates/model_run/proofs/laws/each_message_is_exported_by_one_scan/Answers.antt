@@ -1,5 +1,4 @@
-use Rattle.model_run.specs.{Run.run_of, Exports.exports, Exports.sent_by}
-use Rattle.model_run.proofs.{TosserLaws.the_laws, Lists.nth-among, WholeRuns.run-ok, ExportLists.run-logged, ExportLists.sent-once, ExportLists.sent-to_others, ExportLists.waits-unsent}
+use Rattle.model_run.{specs.{Run.run_of, Exports.{exports, sent_by}}, proofs.{TosserLaws.the_laws, Lists.nth-among, WholeRuns.run-ok, ExportLists.{run-logged, sent-once, sent-to_others, waits-unsent}}}
 use Rattle.model_run.proofs.laws.each_message_is_exported_by_one_scan.Goals as goal
 
 pub returns : goal.returns

@@ -1,5 +1,4 @@
-use Rattle.model_run.specs.Run.{run_of}
-use Rattle.model_run.proofs.{TosserLaws.the_laws, Bases.filed-once, WholeRuns.run-ok}
+use Rattle.model_run.{specs.Run.run_of, proofs.{TosserLaws.the_laws, Bases.filed-once, WholeRuns.run-ok}}
 use Rattle.model_run.proofs.laws.each_message_is_filed_once.Goals as goal
 
 pub returns : goal.returns

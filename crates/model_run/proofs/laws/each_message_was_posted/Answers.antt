@@ -1,6 +1,5 @@
 use Rattle.std.proofs.Common.{sym, ap, ◌∙◌, arith}
-use Rattle.model_run.specs.Orderly.{tag_of}
-use Rattle.model_run.proofs.{TosserLaws.the_laws, Areas.key-tag, Origins.run-traced}
+use Rattle.model_run.{specs.Orderly.tag_of, proofs.{TosserLaws.the_laws, Areas.key-tag, Origins.run-traced}}
 use Rattle.model_run.proofs.laws.each_message_was_posted.Goals as goal
 
 pub returns : goal.returns

@@ -1,5 +1,4 @@
-use Rattle.model_run.specs.{Run.run_of, Exports.exports}
-use Rattle.model_run.proofs.{TosserLaws.the_laws, ExportLists.export-made, ExportLists.run-logged}
+use Rattle.model_run.{specs.{Run.run_of, Exports.exports}, proofs.{TosserLaws.the_laws, ExportLists.{export-made, run-logged}}}
 use Rattle.model_run.proofs.laws.exports_go_to_targets.Goals as goal
 
 pub returns : goal.returns

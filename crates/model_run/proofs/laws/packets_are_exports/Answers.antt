@@ -1,6 +1,5 @@
 use Rattle.std.proofs.Common.{sym}
-use Rattle.model_run.specs.Run.{start}
-use Rattle.model_run.proofs.ExportLists.{events-packets}
+use Rattle.model_run.{specs.Run.start, proofs.ExportLists.events-packets}
 use Rattle.model_run.proofs.laws.packets_are_exports.Goals as goal
 
 pub returns : goal.returns

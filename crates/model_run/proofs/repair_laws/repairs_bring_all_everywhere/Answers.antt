@@ -1,6 +1,5 @@
 use Rattle.std.proofs.{Common.arith, Common.map, Common.refl, lemmas.List.length-map}
-use Rattle.model_run.specs.Run.{System}
-use Rattle.model_run.proofs.{Bases.filed-once, OneMessage.has-one, Repair.differ-files, Repair.enough-rounds, Repairs.rounds-of, TosserLaws.the_laws}
+use Rattle.model_run.{specs.Run.System, proofs.{Bases.filed-once, OneMessage.has-one, Repair.{differ-files, enough-rounds}, Repairs.rounds-of, TosserLaws.the_laws}}
 use Rattle.model_run.proofs.repair_laws.repairs_bring_all_everywhere.Goals as goal
 
 pub returns : goal.returns

@@ -1,6 +1,5 @@
 use Rattle.std.proofs.Common.{arith, map, refl}
-use Rattle.model_run.specs.Run.{System}
-use Rattle.model_run.proofs.{Bases.filed-once, OneMessage.has-one, Repair.differ-files, Repair.rounds-everywhere, Repairs.rounds-of, TosserLaws.the_laws}
+use Rattle.model_run.{specs.Run.System, proofs.{Bases.filed-once, OneMessage.has-one, Repair.{differ-files, rounds-everywhere}, Repairs.rounds-of, TosserLaws.the_laws}}
 use Rattle.model_run.proofs.repair_laws.repairs_bring_all_there.Goals as goal
 
 pub returns : goal.returns

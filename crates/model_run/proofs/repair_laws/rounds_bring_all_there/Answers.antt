@@ -1,6 +1,5 @@
 use Rattle.std.proofs.Common.{refl, map}
-use Rattle.model_run.specs.Run.{System}
-use Rattle.model_run.proofs.{Repair.differ-files, Repair.rounds-everywhere, TosserLaws.the_laws}
+use Rattle.model_run.{specs.Run.System, proofs.{Repair.{differ-files, rounds-everywhere}, TosserLaws.the_laws}}
 use Rattle.model_run.proofs.repair_laws.rounds_bring_all_there.Goals as goal
 
 pub returns : goal.returns

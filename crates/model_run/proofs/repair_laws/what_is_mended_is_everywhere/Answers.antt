@@ -1,6 +1,5 @@
 use Rattle.std.proofs.Common.{refl, map}
-use Rattle.model_run.specs.Run.{System}
-use Rattle.model_run.proofs.{Repair.differ-files, Repair.mended-everywhere, States.base-echo, States.has-once, TosserLaws.the_laws}
+use Rattle.model_run.{specs.Run.System, proofs.{Repair.{differ-files, mended-everywhere}, States.{base-echo, has-once}, TosserLaws.the_laws}}
 use Rattle.model_run.proofs.repair_laws.what_is_mended_is_everywhere.Goals as goal
 
 pub returns : goal.returns

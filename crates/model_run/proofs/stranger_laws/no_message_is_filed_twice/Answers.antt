@@ -1,5 +1,4 @@
-use Rattle.model_run.specs.Lone.{lone_run}
-use Rattle.model_run.proofs.{TosserLaws.the_laws, SentSoFar.base-once, SentSoFar.run-ok}
+use Rattle.model_run.{specs.Lone.lone_run, proofs.{TosserLaws.the_laws, SentSoFar.{base-once, run-ok}}}
 use Rattle.model_run.proofs.stranger_laws.no_message_is_filed_twice.Goals as goal
 
 pub returns : goal.returns

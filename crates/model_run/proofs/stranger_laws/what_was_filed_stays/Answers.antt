@@ -1,6 +1,5 @@
 use Rattle.std.proofs.Common.{◌≤◌, ◌∷◌, subst, sym}
-use Rattle.model_run.specs.Lone.{LoneSystem, PurgeHere, after_lone, lone_run}
-use Rattle.model_run.proofs.Filings.{event-left, left-waiting, run-left, events-purged, run-append, run-lasts}
+use Rattle.model_run.{specs.Lone.{LoneSystem, PurgeHere, after_lone, lone_run}, proofs.Filings.{event-left, left-waiting, run-left, events-purged, run-append, run-lasts}}
 use Rattle.model_run.proofs.stranger_laws.what_was_filed_stays.Goals as goal
 
 pub returns : goal.returns
@@ -10,9 +9,7 @@ returns c = record {
   scanned = λ file events. (run-left file events).purged_before;
   purges = λ file earlier later.
       let s = lone_run file earlier in
-      let P : LoneSystem → Type 0 = λ z. s.system.cursor ≤ z.purged_to in
-      subst P (sym (run-append file earlier (PurgeHere ∷ later)))
-      (events-purged later (after_lone s PurgeHere) (event-left s PurgeHere (run-left file earlier)));
+      rw (← (run-append file earlier (PurgeHere ∷ later))) at (events-purged later (after_lone s PurgeHere) (event-left s PurgeHere (run-left file earlier)));
   later = λ file earlier later. (run-lasts file earlier later).system;
   packets = λ file earlier later. (run-lasts file earlier later).sent;
 }
