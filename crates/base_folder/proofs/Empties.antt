@@ -2,12 +2,10 @@ use Rattle.std.proofs.Common.{◌≡◌, ◌∙◌, ℕ, List, [], length, false
 use Rattle.echo_addr.specs.declared.address.Address.{Address}
 use Rattle.disk_io.specs.Disk.{Files, bytes_in}
 use Rattle.base_log.specs.{Log.no_mark, Log.nothing_recorded, Names.log_of, Names.messages_of, Names.keys_of, Reading.ReadsAll, Standing.BaseBytes, Standing.IsNew, Standing.Represents}
-use Rattle.base_log.specs.declared.log.{End.End, CommitRecord.CommitRecord}
-use Rattle.base_log.proofs.{Empty.new_log, Paths.log_in, Paths.messages_in, Paths.keys_in}
+use Rattle.base_log.{specs.declared.log.{End.End, CommitRecord.CommitRecord}, proofs.{Empty.new_log, Paths.{log_in, messages_in, keys_in}}}
 use Rattle.base_file.specs.Base.{Base}
 use Rattle.base_folder_store.specs.Held.{HoldsBase, RepresentsBase}
-use Rattle.base_folder.specs.{Ours.IsOfOther, Unopened.HaveRoom, Wrong.HasNoFiles, Wrong.IsFolderLog, Wrong.IsSound}
-use Rattle.base_folder.proofs.Wrongs.{one_end, sound_by}
+use Rattle.base_folder.{specs.{Ours.IsOfOther, Unopened.HaveRoom, Wrong.{HasNoFiles, IsFolderLog, IsSound}}, proofs.Wrongs.{one_end, sound_by}}
 
 no_bytes : BaseBytes
 no_bytes = record { messages = []; keys = []; cursor = 0; mark = no_mark }

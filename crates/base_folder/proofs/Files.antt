@@ -3,11 +3,9 @@ use Rattle.std.proofs.Common.{◌≡◌, ◌∙◌, ◌<◌, ◌≤◌, ◌^◌,
 use Rattle.std.proofs.{KnownBytes.Appends-trans, lemmas.Bool.and_right, lemmas.List.append-nil, lemmas.List.append_assoc, lemmas.List.take_all, lemmas.Option.slice_get-get_or}
 use Rattle.std.specs.{Io.KnownBytes.Appends, List.flat_map, List.list_all, Prelude.slice_get, Result.OnErr}
 use Rattle.echo_filed.specs.{Filed.Filed, declared.stored.Version.TheVariants.Second, Stored.is_short_enough, Stored.stored_bytes}
-use Rattle.base_file.specs.BaseFile.{head_bytes, is_countable, saved_bytes, stored_at, stored_from}
-use Rattle.base_file.specs.{Base.Base, declared.fault.BaseFault.BaseFault}
+use Rattle.base_file.specs.{BaseFile.{head_bytes, is_countable, saved_bytes, stored_at, stored_from}, Base.Base, declared.fault.BaseFault.BaseFault}
 use Rattle.base_file.proofs.SavedMessages.{all_more, all_parts, not_countable, saved_parts, stored_all, too_long_here}
-use Rattle.cmd_status.specs.Lines.{WritesFront}
-use Rattle.cmd_status.proofs.Lines.{front_more, front_sent}
+use Rattle.cmd_status.{specs.Lines.WritesFront, proofs.Lines.{front_more, front_sent}}
 use Rattle.disk_io.specs.Device.{Sends}
 use Rattle.base_store.proofs.Causes.{failed_since}
 use Rattle.base_folder_store.proofs.Looked.{some_message}

@@ -1,12 +1,10 @@
 -- A folder after a look: it is readable, or it has a fault. Its log may grow during the look.
-use Rattle.std.proofs.Common.{◌≡◌, ◌∙◌, ◌-◌, ap, ℕ, Bool, List, length, take, drop, Result, Ok, Err, sym, subst, arith}
-use Rattle.std.specs.Result.{IfErr, IfOk, IsErrAnd}
+use Rattle.std.{proofs.Common.{◌≡◌, ◌∙◌, ◌-◌, ap, ℕ, Bool, List, length, take, drop, Result, Ok, Err, sym, subst, arith}, specs.Result.{IfErr, IfOk, IsErrAnd}}
 use Rattle.disk_io.specs.{Disk.DiskState, Disk.Files, Disk.Honestly, Runs.ChangesNothing}
 use Rattle.echo_filed.specs.{Filed.Filed, Stored.Stored, Stored.message_in, declared.stored.Version.TheVariants.Second}
 use Rattle.base_file.specs.declared.fault.BaseFault.TheVariants as fault
 use Rattle.base_log.specs.{Opening.HasFiles, Reading.IsLogIn, Reading.IsRead, Reading.ReadsAll, Standing.BaseBytes, Standing.Represents, Standing.base_at, declared.log.CommitRecord.CommitRecord}
-use Rattle.base_log.specs.declared.log.{End.End, Log.Log}
-use Rattle.base_log.proofs.Opened.{has_files, nothing_read}
+use Rattle.base_log.{specs.declared.log.{End.End, Log.Log}, proofs.Opened.{has_files, nothing_read}}
 use Rattle.base_store.specs.declared.store_error.StoreError.{StoreError}
 use Rattle.base_folder_store.specs.{Answers.Answers, Opened.IsFresh, Opened.path_of, Vouched.HasDigest, Vouched.HasNone, Vouched.IsLookedAt, Vouched.IsThere, declared.folder.Folder.Folder}
 use Rattle.base_folder.specs.{Looked.IsUnseen, Looked.IsUnvouched, OpenError.IsWrong, OpenError.unread_message, declared.open_error.OpenError.OpenError}

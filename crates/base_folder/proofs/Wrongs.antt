@@ -1,6 +1,5 @@
 -- The faults of a folder, and a folder without faults.
-use Rattle.std.proofs.Common.{◌≡◌, ◌∙◌, ℕ, Bool, List, length, sym, ap, ⊎_elim}
-use Rattle.std.proofs.lemmas.Bool.{true≢false}
+use Rattle.std.proofs.{Common.{◌≡◌, ◌∙◌, ℕ, Bool, List, length, sym, ap, ⊎_elim}, lemmas.Bool.true≢false}
 use Rattle.disk_io.specs.Disk.{Files, bytes_in}
 use Rattle.base_log.specs.{Names.log_of, Log.last_recorded, Log.opened, Reading.ReadsAll, Standing.BaseBytes, Standing.Represents, declared.log.End.End}
 use Rattle.base_log.proofs.{Logs.one_log, Opened.lost_none, Opened.read_log}

@@ -1,12 +1,10 @@
 //! The base file of messages that are read one by one, written one by one.
-ghost use Rattle.std.specs.Prelude.{◌≡◌, ◌≤◌, ◌<◌, Some, slice_get, IfErr, IfOk, OnErr, OnOk};
-ghost use Rattle.std.specs.Io.KnownBytes.{Appends};
+ghost use Rattle.std.specs.{Prelude.{◌≡◌, ◌≤◌, ◌<◌, Some, slice_get, IfErr, IfOk, OnErr, OnOk}, Io.KnownBytes.Appends};
 ghost use Rattle.disk_io.specs.Device.{Failed};
 ghost use Rattle.base_file.specs.{Base.Base, BaseFile.head_bytes, BaseFile.saved_bytes, BaseFile.stored_at};
 ghost use Rattle.echo_filed.specs.{Filed.Filed, Stored.stored_as, Stored.stored_bytes, declared.stored.Version.TheVariants.Second};
 ghost use Rattle.cmd_status.specs.Lines.{WritesFront};
-ghost use Rattle.base_folder.specs.AsFile.{IsFileFault, IsMessageFault, IsSendFault, IsTooLong, file_cause};
-ghost use Rattle.base_folder.specs.Source.{AreLegible, LooksAt, ReadsLegibly};
+ghost use Rattle.base_folder.specs.{AsFile.{IsFileFault, IsMessageFault, IsSendFault, IsTooLong, file_cause}, Source.{AreLegible, LooksAt, ReadsLegibly}};
 
 use crate::send_error::SendError;
 use crate::source::MessageSource;

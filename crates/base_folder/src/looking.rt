@@ -3,8 +3,7 @@ ghost use Rattle.std.specs.Prelude.{◌≡◌, ◌++◌, ℕ, List, length, take
 ghost use Rattle.disk_io.specs.{Disk.Honestly, Runs.ChangesNothing};
 ghost use Rattle.base_log.specs.{Reading.IsLogIn, Standing.BaseBytes, Standing.Represents, Standing.base_at};
 ghost use Rattle.base_folder_store.specs.{Opened.held_by, Vouched.IsLookedAt};
-ghost use Rattle.base_folder.specs.Looked.{AreVouched, GoesOn, HasLogs, IsReadWhole, IsUnseen};
-ghost use Rattle.base_folder.specs.{OpenError.HasUnreadCause, Wrong.IsSound};
+ghost use Rattle.base_folder.specs.{Looked.{AreVouched, GoesOn, HasLogs, IsReadWhole, IsUnseen}, OpenError.HasUnreadCause, Wrong.IsSound};
 
 use crate::judging::judge_by;
 use crate::open_error::OpenError;

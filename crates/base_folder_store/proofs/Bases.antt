@@ -1,17 +1,13 @@
 -- Facts about the base that the files of a folder represent.
 use Rattle.std.proofs.Common.{◌≡◌, ℕ, List, length, sym, ◌∙◌, ap, subst, arith}
-use Rattle.disk_io.specs.{Disk.DiskState, Runs.ChangesNothing, Runs.LeavesOnly}
-use Rattle.disk_io.proofs.Moments.{weaker_run}
+use Rattle.disk_io.{specs.{Disk.DiskState, Runs.{ChangesNothing, LeavesOnly}}, proofs.Moments.weaker_run}
 use Rattle.base_log.specs.{Names.AreNames, Standing.BaseBytes, Standing.base_at, Opening.RepresentsOrWasLeft, AtRest.IsAtRest, AtRest.IsStaged, declared.log.End.End}
-use Rattle.base_log.specs.declared.log.CommitRecord.{CommitRecord}
-use Rattle.base_log.proofs.{Quiet.base_quiet, Quiet.staged_quiet, Rested.rest_staged}
+use Rattle.base_log.{specs.declared.log.CommitRecord.CommitRecord, proofs.{Quiet.{base_quiet, staged_quiet}, Rested.rest_staged}}
 use Rattle.echo_filed.specs.Filed.{Filed}
 use Rattle.base_file.specs.Base.{Base}
-use Rattle.base_store.specs.Keys.{AreWhereRecorded}
-use Rattle.base_store.proofs.Placed.{stand_where_recorded}
+use Rattle.base_store.{specs.Keys.AreWhereRecorded, proofs.Placed.stand_where_recorded}
 use Rattle.base_folder_store.specs.{Held.HoldsBase, Held.digest_by, Held.RepresentsBase, Held.RepresentsBaseOrWasLeft, Opened.IsOpen, Opened.IsWritten, Opened.held_by, Opened.path_of}
-use Rattle.base_folder_store.specs.declared.folder.Folder.{Folder}
-use Rattle.base_folder_store.proofs.{Legible.held_quiet, Waits.written_held}
+use Rattle.base_folder_store.{specs.declared.folder.Folder.Folder, proofs.{Legible.held_quiet, Waits.written_held}}
 
 pub recorded_where : (keyed : ℕ → ℕ → List ℕ → ℕ) (bytes : BaseBytes) (base : Base) → HoldsBase keyed bytes base → AreWhereRecorded base.messages bytes.messages bytes.keys
 recorded_where keyed bytes base holds = stand_where_recorded (digest_by keyed bytes.mark) base.messages base.cursor bytes.messages bytes.keys holds.files

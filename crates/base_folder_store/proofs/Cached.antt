@@ -1,10 +1,8 @@
 -- The index of a folder's keys and its buffers, before and after calls.
-use Rattle.std.proofs.Common.{◌≡◌, ℕ, List, length, Result, Ok, Err, sym, subst, arith}
-use Rattle.std.specs.Prelude.{OnOk}
+use Rattle.std.{proofs.Common.{◌≡◌, ℕ, List, length, Result, Ok, Err, sym, subst, arith}, specs.Prelude.OnOk}
 use Rattle.disk_io.specs.Disk.{DiskState, Honestly}
 use Rattle.base_log.specs.Standing.{BaseBytes}
-use Rattle.base_store.specs.{Index.IsIndexOf, Keys.entry, declared.index.Index.Index, declared.store_error.StoreError.StoreError}
-use Rattle.base_store.proofs.Found.{index_stays}
+use Rattle.base_store.{specs.{Index.IsIndexOf, Keys.entry, declared.{index.Index.Index, store_error.StoreError.StoreError}}, proofs.Found.index_stays}
 use Rattle.base_folder_store.specs.{Added.with_stored, Ahead.AreParts, Opened.held_by, State.IsCached, declared.folder.Folder.Folder, declared.read_ahead.Buffers.Buffers}
 use Rattle.base_folder_store.proofs.Ahead.{part_grows}
 

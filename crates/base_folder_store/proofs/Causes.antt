@@ -1,7 +1,6 @@
 -- The answers of reads, carried from one to the next.
-use Rattle.std.proofs.Common.{◌≡◌, ℕ, List, Result, Ok, Err, ap, sym, subst, ◌∙◌}
+use Rattle.std.{proofs.Common.{◌≡◌, ℕ, List, Result, Ok, Err, ap, sym, subst, ◌∙◌}, specs.Result.{IfOk, IsErrAnd, IsErrOf, OnErr, OnOk}}
 use Rattle.disk_io.specs.Disk.{DiskState, Honestly}
-use Rattle.std.specs.Result.{IfOk, IsErrAnd, IsErrOf, OnErr, OnOk}
 use Rattle.base_file.specs.Base.{Base}
 use Rattle.base_log.specs.Standing.{BaseBytes}
 use Rattle.base_store.specs.declared.store_error.StoreError.{StoreError}

@@ -3,8 +3,7 @@ use Rattle.disk_io.specs.Disk.{DiskState}
 use Rattle.base_log.specs.declared.log.FolderIdentity.{FolderIdentity}
 use Rattle.echo_filed.specs.{Stored.Stored, Filed.Filed}
 use Rattle.base_file.specs.Base.{Base}
-use Rattle.base_store.specs.{Keys.keys_from, declared.index.Index.Index, Store.CommitsNothing, Store.GoesOn}
-use Rattle.base_store.proofs.Placed.{keys_long}
+use Rattle.base_store.{specs.{Keys.keys_from, declared.index.Index.Index, Store.{CommitsNothing, GoesOn}}, proofs.Placed.keys_long}
 use Rattle.base_folder_store.specs.{Held.HoldsBase, Held.digest_by, Opened.IsOpen, Opened.held_by, Owned.IsUnclaimed, Owned.with_mark, State.IsCached, State.IsUsable, State.state_of}
 use Rattle.base_folder_store.specs.declared.{folder.Folder.Folder, read_ahead.Buffers.Buffers}
 use Rattle.base_folder_store.proofs.{Legible.keys_all, Legible.legible_open, Runs.run_none, Stated.stages}

@@ -1,10 +1,8 @@
 -- A purged base has room in a folder that had room for the base.
 use Rattle.std.proofs.Common.{◌≡◌, ◌+◌, ◌*◌, ◌^◌, ◌<◌, ◌≤◌, ℕ, nat_lt, List, [], ◌∷◌, ◌++◌, length, inl, inr, arith, length-append}
-use Rattle.std.proofs.lemmas.{Bool.cond-true, Bool.lt-ltb, List.length-drop, List.length-map, List.length-take-le}
-use Rattle.std.specs.List.{AllByRecursion, flat_map}
+use Rattle.std.{proofs.lemmas.{Bool.{cond-true, lt-ltb}, List.{length-drop, length-map, length-take-le}}, specs.List.{AllByRecursion, flat_map}}
 use Rattle.echo_packet.specs.Header.{word}
-use Rattle.echo_filed.specs.Stored.{IsStored, Stored, after_length, last_bytes, stored_bytes}
-use Rattle.echo_filed.specs.{Filed.Filed, declared.stored.Version.TheVariants.Second}
+use Rattle.echo_filed.specs.{Stored.{IsStored, Stored, after_length, last_bytes, stored_bytes}, Filed.Filed, declared.stored.Version.TheVariants.Second}
 use Rattle.base_file.specs.Base.{Base}
 use Rattle.base_log.specs.Standing.{BaseBytes}
 use Rattle.base_store.specs.Keys.{HasBytesOf, AreWhereRecorded, place_at, place_behind}

@@ -1,11 +1,9 @@
 -- A folder with readable files.
-use Rattle.std.proofs.Common.{◌≡◌, ℕ, List, length, ap, arith, length-append}
-use Rattle.std.proofs.lemmas.List.{length-take-le}
+use Rattle.std.proofs.{Common.{◌≡◌, ℕ, List, length, ap, arith, length-append}, lemmas.List.length-take-le}
 use Rattle.disk_io.specs.{Disk.DiskState, Disk.bytes_in, Runs.ChangesNothing}
 use Rattle.base_log.specs.{AtRest.IsStaged, Names.keys_of, Names.messages_of, Standing.BaseBytes, Standing.base_at, declared.log.CommitRecord.CommitRecord, declared.log.End.End}
 use Rattle.base_log.proofs.Quiet.{base_quiet}
-use Rattle.base_folder_store.specs.Opened.{IsLegible, IsOpen, and_waiting, held_by, path_of}
-use Rattle.base_folder_store.specs.{Added.next_place, declared.folder.Folder.Folder}
+use Rattle.base_folder_store.specs.{Opened.{IsLegible, IsOpen, and_waiting, held_by, path_of}, Added.next_place, declared.folder.Folder.Folder}
 
 pub legible_open : (d : DiskState) (f : Folder) → IsOpen d f → IsLegible d f
 legible_open d f opened = grind arith

@@ -1,7 +1,6 @@
 -- A message looked up among those of a base.
 use Rattle.std.proofs.Common.{◌≡◌, ◌≢◌, ℕ, suc, ◌*◌, ◌/◌, ◌<◌, ◌≤◌, Bool, false, List, [], ◌∷◌, length, get_or, refl, sym, ◌∙◌, arith, ⊎_elim}
-use Rattle.std.proofs.lemmas.Bool.{cases_lt, false_from_ne_true, or_from}
-use Rattle.std.specs.List.{list_any}
+use Rattle.std.{proofs.lemmas.Bool.{cases_lt, false_from_ne_true, or_from}, specs.List.list_any}
 use Rattle.echo_filed.specs.Filed.{Filed}
 use Rattle.base_store.specs.Keys.{digest_at}
 use Rattle.base_file.specs.Alone.{IsStoredAlone}

@@ -1,11 +1,9 @@
 -- A message is at the place in the entry of its number.
 use Rattle.std.proofs.Common.{◌≡◌, ℕ, ◌≤◌, ◌<◌, ◌+◌, ◌-◌, ◌*◌, ◌/◌, List, ◌++◌, length, min, take, drop, nat_lt, sym, ◌∙◌, ap, arith, ⊎_elim, length-append, length-drop}
-use Rattle.std.proofs.lemmas.Bool.{cases_lt, cond-false, cond-true, le-ltb, lt-ltb}
+use Rattle.std.{proofs.lemmas.Bool.{cases_lt, cond-false, cond-true, le-ltb, lt-ltb}, specs.Int.{w64, from_le_bytes}}
 use Rattle.std.proofs.lemmas.List.{drop-append-le, drop-drop, length-take-le, take-append-drop, take-append-le}
-use Rattle.std.specs.Int.{w64, from_le_bytes}
 use Rattle.echo_filed.specs.{Stored.Stored, Stored.stored_bytes, declared.stored.Version.TheVariants.Second}
-use Rattle.base_store.specs.Keys.{HasBytesOf, IsPieceOf, digest_at, place_at, place_behind}
-use Rattle.base_store.specs.{Index.IsIndexOf, Index.entries_of, declared.index.Index.Index}
+use Rattle.base_store.specs.{Keys.{HasBytesOf, IsPieceOf, digest_at, place_at, place_behind}, Index.{IsIndexOf, entries_of}, declared.index.Index.Index}
 use Rattle.base_store.proofs.Found.{piece_digest}
 use Rattle.base_folder_store.specs.Vouched.{AreBytesAt}
 

@@ -3,10 +3,8 @@ use Rattle.std.proofs.lemmas.{Grind.flat_map-append, List.append-nil, List.map-a
 use Rattle.echo_filed.specs.{Filed.Filed, Filed.IsFiled, Filed.key_of, Stored.IsStored, Stored.Stored, Stored.message_in, Stored.stored_bytes, declared.stored.Version.TheVariants.Second}
 use Rattle.echo_filed.proofs.Plain.{all_append}
 use Rattle.base_log.specs.Standing.{BaseBytes}
-use Rattle.base_file.specs.{Alone.IsStoredAlone, Alone.MayStandAlone, Base.Base, Base.is_known}
-use Rattle.base_file.proofs.Entries.{one_more}
-use Rattle.base_store.specs.{Keys.FolderRepresents, Keys.digested, Keys.entry, Keys.keys_from, Store.with_message}
-use Rattle.base_store.proofs.Placed.{bytes_of, keys_append}
+use Rattle.base_file.{specs.{Alone.{IsStoredAlone, MayStandAlone}, Base.{Base, is_known}}, proofs.Entries.one_more}
+use Rattle.base_store.{specs.{Keys.{FolderRepresents, digested, entry, keys_from}, Store.with_message}, proofs.Placed.{bytes_of, keys_append}}
 use Rattle.base_folder_store.specs.{Added.with_stored, Held.HoldsBase, Held.digest_by}
 
 pub files_more : (digest : List ℕ → ℕ) (base : List Filed) (cursor : ℕ) (messages keys : List ℕ) (m : Filed) (bytes : List ℕ) (number : ℕ) → FolderRepresents digest base cursor messages keys → IsStoredAlone m bytes → IsFiled m

@@ -1,11 +1,9 @@
 -- The facts that the first two lines of a text give without parsing.
 use Rattle.std.proofs.Common.{◌≡◌, ℕ, ◌<◌, ◌≤◌, nat_lt, true, false, List, ◌∷◌, ◌++◌, length, take, drop, get_or, Option, Some, refl, sym, ap, ◌∙◌, arith}
-use Rattle.std.proofs.lemmas.Bool.{and_from, cond-false, cond-true, lt-ltb, ne_eqb, or_from}
-use Rattle.std.proofs.lemmas.{List.drop_at, List.take-append-drop, Slice.Eq.bytes_eq-Decides}
+use Rattle.std.proofs.lemmas.{Bool.{and_from, cond-false, cond-true, lt-ltb, ne_eqb, or_from}, List.{drop_at, take-append-drop}, Slice.Eq.bytes_eq-Decides}
 use Rattle.std.specs.{List.find, Prelude.bytes_eq, Prelude.option_map, Prelude.unwrap_or}
 use Rattle.echo_text.specs.Lines.{after_word, area_tag, area_word, begins, first_line, is_tag, later_lines, lines, msgid_word, trimmed}
-use Rattle.echo_text.specs.{Echo.EchoText, Echo.msgid_of, Tail.kept_of}
-use Rattle.echo_text.proofs.{KeptLines.msgids_kept, Tags.area_tag_back}
+use Rattle.echo_text.{specs.{Echo.{EchoText, msgid_of}, Tail.kept_of}, proofs.{KeptLines.msgids_kept, Tags.area_tag_back}}
 use Rattle.echo_filed.specs.Stored.{IsStored, Stored, after_length, after_long_length, has_tag, last_bytes, message_in, stored_bytes}
 use Rattle.echo_filed.specs.{Filed.Filed, Filed.has_id, Filed.key_of, Filed.same_key, Written.echo_of, declared.key.Key.TheVariants.ById, declared.stored.Version.TheVariants.Second}
 

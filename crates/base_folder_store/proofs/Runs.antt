@@ -1,9 +1,7 @@
 -- Sequences of calls on an open base folder.
 use Rattle.std.proofs.Common.{◌≡◌, inl, inr, ⊎_elim, List, ℕ, Result, ◌∙◌, subst, arith}
-use Rattle.disk_io.specs.{Disk.DiskState, Disk.Honestly, Runs.ChangesNothing}
-use Rattle.disk_io.proofs.Moments.{then_nothing, then_run, weaker_run}
-use Rattle.base_log.specs.{Moments.IsBeforeOrAfter, Moments.RepresentsAlone, Standing.BaseBytes, Standing.Represents}
-use Rattle.base_log.proofs.Keeping.{outside_quiet, outside_twice}
+use Rattle.disk_io.{specs.{Disk.{DiskState, Honestly}, Runs.ChangesNothing}, proofs.Moments.{then_nothing, then_run, weaker_run}}
+use Rattle.base_log.{specs.{Moments.{IsBeforeOrAfter, RepresentsAlone}, Standing.{BaseBytes, Represents}}, proofs.Keeping.{outside_quiet, outside_twice}}
 use Rattle.base_store.specs.declared.store_error.StoreError.{StoreError}
 use Rattle.base_folder_store.specs.{Calls.CommitsOnly, Calls.StagesOnly, Calls.StaysOpen, Opened.IsOpen, Opened.committed_by, Opened.path_of, declared.folder.Folder.Folder}
 use Rattle.base_folder_store.proofs.Staged.{nothing_left, outside_same}

@@ -1,16 +1,12 @@
 -- The answers of a store over a base folder about its base.
 use Rattle.std.proofs.Common.{◌≡◌, ◌<◌, ◌/◌, ◌^◌, ℕ, false, true, List, length, get_or, Option, Some, None, sym, ap, ◌∙◌, arith}
-use Rattle.std.proofs.lemmas.Option.{slice_get-get_or}
-use Rattle.std.specs.{Prelude.bytes_eq, Prelude.option_map, Prelude.slice_get, Prelude.unwrap_or, Cmp.Lexicographic.bytes_decides}
+use Rattle.std.{proofs.lemmas.Option.slice_get-get_or, specs.{Prelude.{bytes_eq, option_map, slice_get, unwrap_or}, Cmp.Lexicographic.bytes_decides}}
 use Rattle.disk_io.specs.Disk.{DiskState}
 use Rattle.base_log.specs.Standing.{BaseBytes}
 use Rattle.echo_text.specs.Echo.{msgid_of}
-use Rattle.echo_filed.specs.Filed.{Filed, IsFiled, has_id, key_of, same_key}
-use Rattle.echo_filed.specs.declared.key.Key.{Key}
-use Rattle.echo_filed.proofs.Keys.{same_key_decides}
+use Rattle.echo_filed.{specs.{Filed.{Filed, IsFiled, has_id, key_of, same_key}, declared.key.Key.Key}, proofs.Keys.same_key_decides}
 use Rattle.base_file.specs.{Alone.IsStoredAlone, Base.Base, Base.IsBase, Base.is_known}
-use Rattle.base_store.specs.{Keys.digested_key, Keys.digested_with, Store.all_scanned, Store.with_message}
-use Rattle.base_store.proofs.{Digests.of_key, Recorded.recorded_base_each}
+use Rattle.base_store.{specs.{Keys.{digested_key, digested_with}, Store.{all_scanned, with_message}}, proofs.{Digests.of_key, Recorded.recorded_base_each}}
 use Rattle.base_folder_store.specs.{Added.with_stored, Answers.HaveDigest, Held.HoldsBase, Held.digest_by, Opened.IsOpen, Opened.held_by, declared.folder.Folder.Folder}
 use Rattle.base_folder_store.proofs.{Bases.recorded_where, Legible.keys_all, Legible.legible_open, Looked.some_message, OneMore.holds_more}
 

@@ -1,16 +1,13 @@
 -- A purged stored message has no more bytes than before.
 use Rattle.std.proofs.Common.{◌≡◌, ℕ, ◌+◌, ◌-◌, ◌^◌, ◌≤◌, ◌&&◌, nat_lt, Bool, true, false, List, [], ◌∷◌, ◌++◌, length, map, drop, refl, sym, ap, subst, ◌∙◌, Option, Some, None, inl, inr, arith, length-append}
-use Rattle.std.proofs.lemmas.Bool.{and_from, cases_Bool, cond-false, cond-true, lt-ltb, ltb-true}
-use Rattle.std.proofs.lemmas.List.{length-drop, length-take}
+use Rattle.std.proofs.lemmas.{Bool.{and_from, cases_Bool, cond-false, cond-true, lt-ltb, ltb-true}, List.{length-drop, length-take}}
 use Rattle.std.specs.{Prelude.filter, Prelude.find, Prelude.is_some, Prelude.unwrap_or, List.flat_map, List.prefix_len, List.suffix_len}
 use Rattle.echo_addr.specs.{Entries.is_blank, ShortLines.path_prefix, ShortLines.seen_prefix}
-use Rattle.echo_text.specs.Lines.{after_feeds, after_word, area_word, begins, is_feed, msgid_word, trimmed}
-use Rattle.echo_text.specs.Echo.{EchoText, ended, msgid_of}
+use Rattle.echo_text.specs.{Lines.{after_feeds, after_word, area_word, begins, is_feed, msgid_word, trimmed}, Echo.{EchoText, ended, msgid_of}}
 use Rattle.echo_filed.specs.Stored.{IsStored, Stored, after_length, after_long_length, is_short, is_short_enough, message_in, stored_as, stored_bytes}
 use Rattle.echo_filed.specs.{Filed.Filed, Sending.front_bytes, Sending.strings_bytes, Stubs.stub_of, Stubs.stub_with, Written.short_lines, Written.text_of, declared.stored.Version.TheVariants.Second}
 use Rattle.echo_filed.proofs.{Keys.msgid_first, Keys.msgid_is_id, Keys.stub_of_stub, Sendings.last_sent, Sendings.stored_parts, StubTests.stub_reported}
-use Rattle.base_file.specs.{Alone.MayStandAlone, Alone.cursor_alone, BaseFile.stored_at}
-use Rattle.base_file.proofs.LoneMessages.{alone_again}
+use Rattle.base_file.{specs.{Alone.{MayStandAlone, cursor_alone}, BaseFile.stored_at}, proofs.LoneMessages.alone_again}
 
 in_line : (line : List ℕ) → length (trimmed (after_word msgid_word line)) ≤ length line
 unfolding trimmed after_word

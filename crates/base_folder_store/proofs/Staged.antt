@@ -1,15 +1,13 @@
 -- An open base folder after staging and after a commit.
 use Rattle.std.proofs.Common.{◌≡◌, ◌<◌, ◌+◌, ◌^◌, ℕ, List, ◌++◌, length, sym, ap, subst, ◌∙◌, arith, length-append}
 use Rattle.std.proofs.lemmas.List.{append_assoc, length-take-le}
-use Rattle.disk_io.specs.{Disk.DiskState, Disk.bytes_in, Runs.LeavesOnly}
-use Rattle.disk_io.proofs.Moments.{no_call}
+use Rattle.disk_io.{specs.{Disk.{DiskState, bytes_in}, Runs.LeavesOnly}, proofs.Moments.no_call}
 use Rattle.base_log.specs.{AtRest.IsAtRest, AtRest.IsStaged, Moments.KeepsOutside, Moments.RepresentsAlone, Names.AreNames, Names.folder_of, Names.messages_of}
 use Rattle.base_log.specs.{Standing.BaseBytes, Standing.and_keys, Standing.and_messages, Standing.base_at, declared.log.End.End, declared.log.CommitRecord.CommitRecord, declared.names.Names.Names}
 use Rattle.base_log.proofs.Rested.{rest_staged}
 use Rattle.base_store.specs.Keys.{entry}
-use Rattle.base_folder_store.specs.Opened.{IsNamed, IsOpen, IsWritten, committed_by, held_by, path_of}
+use Rattle.base_folder_store.{specs.Opened.{IsNamed, IsOpen, IsWritten, committed_by, held_by, path_of}, proofs.{Legible.keys_count, Waits.written_held}}
 use Rattle.base_folder_store.specs.{Added.OneMoreWaits, Added.next_place, Added.with_stored, declared.folder.Folder.Folder}
-use Rattle.base_folder_store.proofs.{Legible.keys_count, Waits.written_held}
 
 pub outside_same : (path : List ℕ) (d : DiskState) → KeepsOutside path d d
 outside_same path d = grind arith

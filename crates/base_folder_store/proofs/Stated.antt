@@ -1,20 +1,16 @@
 -- A base folder as a store, before and after calls.
 use Rattle.std.proofs.Common.{◌≡◌, ◌∙◌, ◌≤◌, ◌<◌, ◌⊎◌, ℕ, Bool, false, List, length, Option, Result, Ok, Err, refl, sym, ap, subst, arith}
 use Rattle.std.specs.Prelude.{IfOk, OnOk, IsErrOf}
-use Rattle.disk_io.specs.{Disk.DiskState, Disk.Files, Disk.Honestly, Runs.ChangesNothing}
-use Rattle.disk_io.proofs.Moments.{weaker_run}
-use Rattle.base_log.specs.{Moments.KeepsOutside, Standing.BaseBytes, Standing.Represents}
-use Rattle.base_log.proofs.Quiet.{base_quiet}
+use Rattle.disk_io.{specs.{Disk.{DiskState, Files, Honestly}, Runs.ChangesNothing}, proofs.Moments.weaker_run}
+use Rattle.base_log.{specs.{Moments.KeepsOutside, Standing.{BaseBytes, Represents}}, proofs.Quiet.base_quiet}
 use Rattle.base_file.specs.Base.{Base}
 use Rattle.echo_filed.specs.Filed.{Filed}
 use Rattle.base_store.specs.Store.{Commits, CommitsNothing, GoesOn, HasStoreCause, IsSameStore, KeepsOthers, LooksOn, MayCommit, StoreState}
-use Rattle.base_store.specs.declared.store_error.StoreError.{StoreError}
+use Rattle.base_store.{specs.declared.store_error.StoreError.StoreError, proofs.Causes.same_error}
 use Rattle.base_store.specs.declared.store_error.StoreError.TheVariants as error
-use Rattle.base_folder_store.specs.Opened.{IsNamed, IsOpen, committed_by, held_by, path_of}
+use Rattle.base_folder_store.specs.{Opened.{IsNamed, IsOpen, committed_by, held_by, path_of}, State.{IsUsable, state_of}, declared.folder.Folder.Folder}
 use Rattle.base_folder_store.specs.{Answers.Answers, Answers.HasReadCause, Calls.CommitsOnly, Calls.IsAcknowledged, Calls.StagesOnly, Calls.StaysOpen, Held.HoldsBase, Held.RepresentsBase}
-use Rattle.base_folder_store.specs.{State.IsUsable, State.state_of, declared.folder.Folder.Folder}
 use Rattle.base_folder_store.proofs.Bases.{open_quiet}
-use Rattle.base_store.proofs.Causes.{same_error}
 
 pub looks : (d e : DiskState) (keyed : ℕ → ℕ → List ℕ → ℕ) (f : Folder) (h k : Option Filed) → IsUsable d f → ChangesNothing d e → LooksOn (state_of d keyed f h) (state_of e keyed f k)
 looks d e keyed f h k usable quiet = grind (arith, base_quiet, open_quiet)

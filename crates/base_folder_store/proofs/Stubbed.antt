@@ -1,17 +1,12 @@
 -- The messages of a base folder after a purge, in order.
 use Rattle.std.proofs.Common.{◌≡◌, ◌<◌, ◌≤◌, ◌+◌, ◌^◌, ℕ, zero, suc, not, nat_lt, ◌&&◌, Bool, true, false, List, [], ◌∷◌, ◌++◌, length, map, take, drop, get_or, refl, sym, ap, subst, ◌∙◌, arith, count_by, append_assoc, if◌then◌else◌}
 use Rattle.std.proofs.lemmas.List.{append-nil, get_or-take, length-append, length-drop, length-map, length-take, length-take-le, take_all, take_more}
-use Rattle.std.proofs.lemmas.{Bool.ltb-false, Bool.ltb-true, List.Sums.count_by_more_no, List.Sums.count_by_more_yes}
-use Rattle.std.specs.List.{AllByRecursion}
-use Rattle.echo_filed.specs.{Filed.Filed, Filed.IsFiled, Filed.key_of, Stubs.is_stub, Stubs.stub_of}
-use Rattle.echo_filed.proofs.Keys.{stub_keeps_key}
+use Rattle.std.{proofs.lemmas.{Bool.{ltb-false, ltb-true}, List.Sums.{count_by_more_no, count_by_more_yes}}, specs.List.AllByRecursion}
+use Rattle.echo_filed.{specs.{Filed.{Filed, IsFiled, key_of}, Stubs.{is_stub, stub_of}}, proofs.Keys.stub_keeps_key}
 use Rattle.base_log.specs.Standing.{BaseBytes}
-use Rattle.base_file.specs.{Alone.IsStoredAlone, Base.AreNew, Base.Base, Base.IsBase, Base.is_known}
-use Rattle.base_file.proofs.StubBases.{stubs_keep}
-use Rattle.base_store.specs.{Keys.digest_at, Keys.digested, Store.purged}
-use Rattle.base_store.proofs.{Digests.of_key, Recorded.recorded_base_each}
-use Rattle.base_folder_store.specs.{Added.with_stored, Held.HoldsBase, Held.digest_by, Left.changed_in, Left.first_left, Left.left_if}
-use Rattle.base_folder_store.proofs.OneMore.{holds_more}
+use Rattle.base_file.{specs.{Alone.IsStoredAlone, Base.{AreNew, Base, IsBase, is_known}}, proofs.StubBases.stubs_keep}
+use Rattle.base_store.{specs.{Keys.{digest_at, digested}, Store.purged}, proofs.{Digests.of_key, Recorded.recorded_base_each}}
+use Rattle.base_folder_store.{specs.{Added.with_stored, Held.{HoldsBase, digest_by}, Left.{changed_in, first_left, left_if}}, proofs.OneMore.holds_more}
 
 pub record IsBelow (b : Bool) (i n : ℕ) : Type 0 where
   pub yes : b ≡ true → i < n

@@ -1,9 +1,6 @@
 -- A message that was read alone, and its digest.
-use Rattle.std.proofs.Common.{◌≡◌, ◌∙◌, ◌≤◌, ℕ, List, drop, length, nat_eq, sym, take, arith}
-use Rattle.std.proofs.lemmas.Bool.{eq-eqb, eqb-true}
-use Rattle.std.specs.Prelude.{◌↔◌, IsTrue}
-use Rattle.echo_filed.specs.Stored.{Stored, stored_bytes}
-use Rattle.echo_filed.specs.declared.stored.Version.TheVariants.{Second}
+use Rattle.std.{proofs.{Common.{◌≡◌, ◌∙◌, ◌≤◌, ℕ, List, drop, length, nat_eq, sym, take, arith}, lemmas.Bool.{eq-eqb, eqb-true}}, specs.Prelude.{◌↔◌, IsTrue}}
+use Rattle.echo_filed.specs.{Stored.{Stored, stored_bytes}, declared.stored.Version.TheVariants.Second}
 use Rattle.base_store.specs.Keys.{HasBytesOf, place_at, place_behind}
 use Rattle.base_folder_store.specs.Vouched.{AreBytesAt}
 

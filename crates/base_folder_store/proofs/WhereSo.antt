@@ -1,6 +1,5 @@
 -- A store with one more premise for its calls.
-use Rattle.std.proofs.Common.{◌≡◌, Bool, false, Result, Ok, Err}
-use Rattle.std.specs.Prelude.{OnOk}
+use Rattle.std.{proofs.Common.{◌≡◌, Bool, false, Result, Ok, Err}, specs.Prelude.OnOk}
 use Rattle.disk_io.proofs.Moments.{weaker_run}
 use Rattle.base_store.specs.Store.{Commits, CommitsNothing, GoesOn, IsSameStore, KeepsOthers, LooksOn, MayCommit, LeavesCommitted, LeavesEither, StoreState}
 use Rattle.base_store.specs.declared.store_error.StoreError.{StoreError}

@@ -1,10 +1,9 @@
 -- The effects of calls on an open base folder.
 use Rattle.std.specs.Prelude.{◌≡◌, ◌≤◌, ℕ, List, Result, IsErrOf, OnOk}
 use Rattle.disk_io.specs.{Device.Failed, Disk.DiskState, Disk.Files, Disk.Honestly, Runs.LeavesOnly}
-use Rattle.base_log.specs.AtRest.{IsAtRest, IsStaged}
+use Rattle.base_log.specs.{AtRest.{IsAtRest, IsStaged}, declared.log.End.End}
 pub use Rattle.base_log.specs.Moments.{StagesOnly}
 use Rattle.base_log.specs.{Moments.IsBeforeOrAfter, Moments.KeepsOutside, Standing.BaseBytes, Standing.and_keys, Standing.and_messages, Standing.base_at, declared.log.CommitRecord.CommitRecord}
-use Rattle.base_log.specs.declared.log.End.{End}
 use Rattle.base_store.specs.declared.store_error.StoreError.{StoreError}
 use Rattle.base_store.specs.declared.store_error.StoreError.TheVariants as error
 use Rattle.base_folder_store.specs.Opened.{IsNamed, IsOpen, IsWritten, committed_by, held_by, path_of}

@@ -1,6 +1,5 @@
 //! A message looked up by its digest: only those that have it are read, and keys are compared whole.
-ghost use Rattle.std.specs.Prelude.{◌≡◌, ◌≤◌, ◌/◌, ◌^◌, List, IsErrOf, OnOk};
-ghost use Rattle.std.specs.List.{list_any};
+ghost use Rattle.std.specs.{Prelude.{◌≡◌, ◌≤◌, ◌/◌, ◌^◌, List, IsErrOf, OnOk}, List.list_any};
 ghost use Rattle.disk_io.specs.{Disk.Honestly, Runs.ChangesNothing};
 ghost use Rattle.echo_filed.specs.Filed.{Filed};
 ghost use Rattle.base_store.specs.{Index.IsIndexOf, Index.covered, Keys.AreWhereRecorded};

@@ -1,8 +1,7 @@
 //! The first two lines of a stored message: its tag and its id, if they are there plainly.
 ghost use Rattle.std.specs.Prelude.{◌≡◌, ◌++◌, ◌<◌, ℕ, List, Some, false, IfSome, IsTrue};
 ghost use Rattle.echo_text.specs.{Echo.msgid_of, Lines.area_tag, Lines.first_line, Lines.later_lines, Lines.lines, Tail.kept_of};
-ghost use Rattle.echo_filed.specs.Stored.{IsStored, Stored, after_length, has_tag, stored_bytes};
-ghost use Rattle.echo_filed.specs.declared.stored.Version.TheVariants.{Second};
+ghost use Rattle.echo_filed.specs.{Stored.{IsStored, Stored, after_length, has_tag, stored_bytes}, declared.stored.Version.TheVariants.Second};
 
 use echo_text::{is_kept_tag, split_line, trimmed};
 

@@ -1,6 +1,5 @@
 -- Why a sequence of calls of a store failed.
-use Rattle.std.proofs.Common.{◌≡◌, ◌≤◌, ℕ, Result, Ok, Err, arith}
-use Rattle.std.proofs.Math.Nat.{eq-or-lt_of_le}
+use Rattle.std.proofs.{Common.{◌≡◌, ◌≤◌, ℕ, Result, Ok, Err, arith}, Math.Nat.eq-or-lt_of_le}
 use Rattle.disk_io.specs.{Device.Failed, Disk.Honestly}
 use Rattle.base_file.specs.Base.{Base}
 use Rattle.base_store.specs.{Store.StoreState, Store.HasStoreCause, declared.store_error.StoreError.StoreError}

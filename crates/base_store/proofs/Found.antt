@@ -1,11 +1,9 @@
 -- Messages found for digests that are expected.
 use Rattle.std.proofs.Common.{◌≡◌, ℕ, Bool, true, false, ◌+◌, ◌*◌, ◌/◌, ◌<◌, ◌≤◌, ◌-◌, ◌⊎◌, inr, List, [], ◌∷◌, ◌++◌, length, take, drop, get_or, sym, ap, subst, ◌∙◌, arith, ⊎_elim, append_assoc, length-append, length-drop, Option, Some, None, Result, Ok, Err, if◌then◌else◌}
 use Rattle.std.proofs.lemmas.{Bool.cases_lt, List.drop-drop, List.drop_at, List.get_or_default, List.Elements.Contains-append_left, List.Elements.Contains-push, List.Elements.Contains-push_cases}
-use Rattle.std.specs.Prelude.{Contains, IfNone, IfSome, OnOk, is_ok}
-use Rattle.std.specs.Int.{w64, from_le_bytes}
-use Rattle.base_store.specs.Expected.{AreFound, IsLastSeen, IsPlaceIn, are_set, is_expected, place_in}
+use Rattle.std.specs.{Prelude.{Contains, IfNone, IfSome, OnOk, is_ok}, Int.{w64, from_le_bytes}}
+use Rattle.base_store.specs.{Expected.{AreFound, IsLastSeen, IsPlaceIn, are_set, is_expected, place_in}, declared.index.Index.Index}
 use Rattle.base_store.specs.{Chains.AreChains, Index.IsIndexOf, Keys.IsPieceOf, Keys.digest_at, declared.chains.Chains.Chains, declared.expected.Expected.Expected, declared.expected.NumberedDigest.NumberedDigest}
-use Rattle.base_store.specs.declared.index.Index.{Index}
 use Rattle.base_store.proofs.Indexed.{chains_stay, entry_stays}
 
 pub piece_digest : (keys : List ℕ) (from : ℕ) (piece : List ℕ) (i : ℕ) → IsPieceOf keys from piece → i < length piece / 16 → digest_at keys (from + i) ≡ digest_at piece i

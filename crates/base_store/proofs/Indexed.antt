@@ -1,7 +1,6 @@
 -- Extending keys, and following their chains.
 use Rattle.std.proofs.Common.{◌≡◌, ◌≢◌, ℕ, ◌+◌, ◌*◌, ◌<◌, ◌≤◌, List, ◌++◌, length, min, take, drop, get_or, ap, ◌∙◌, arith, ⊎_elim, length-append, length-drop}
-use Rattle.std.proofs.lemmas.{Bool.cases_lt, List.drop-append-le, List.take-append-le}
-use Rattle.std.specs.Int.{w64, from_le_bytes}
+use Rattle.std.{proofs.lemmas.{Bool.cases_lt, List.{drop-append-le, take-append-le}}, specs.Int.{w64, from_le_bytes}}
 use Rattle.base_store.specs.{Chains.AreChains, Chains.IsLastUnder, Chains.count_of, Chains.head_of, Keys.digest_at, declared.chains.Chains.Chains}
 
 pub entry_stays : (keys more : List ℕ) (i : ℕ) → 16 * i + 16 ≤ length keys → digest_at (keys ++ more) i ≡ digest_at keys i

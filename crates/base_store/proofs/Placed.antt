@@ -21,8 +21,7 @@ record Parts (all : List Stored) (i : ℕ) : Type 0 where
 
 parts_at : (all : List Stored) (i : ℕ) → i < length all → AllByRecursion (IsStored Second) all → AllByRecursion MayStandAlone all → Parts all i
 parts_at [] i within sizes sound = absurd (omega arith)
-parts_at (s ∷ later) zero within sizes sound =
-    record { before = []; s = s; later = later; parts = refl; count = refl; size = sizes.0; alone = sound.0 }
+parts_at (s ∷ later) zero within sizes sound = record { before = []; s = s; later = later; parts = refl; count = refl; size = sizes.0; alone = sound.0 }
 parts_at (x ∷ more) (suc i) within sizes sound =
     let r = parts_at more i (omega arith) sizes.1 sound.1 in
     record { before = x ∷ r.before; s = r.s; later = r.later; parts = ap (λ (l : List Stored). x ∷ l) r.parts; count = ap suc r.count; size = r.size; alone = r.alone }

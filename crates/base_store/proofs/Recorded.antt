@@ -1,6 +1,5 @@
 use Rattle.std.proofs.Common.{◌≡◌, ◌<◌, ◌+◌, ◌*◌, ◌^◌, ℕ, zero, suc, List, [], ◌∷◌, ◌++◌, length, map, take, drop, get_or, refl, sym, ◌∙◌, ap, arith, append_assoc}
-use Rattle.std.proofs.lemmas.{List.take_at, List.drop_at, List.drop-drop, Nat.from_le_bytes-to_le_bytes_8}
-use Rattle.std.specs.Int.{w64, from_le_bytes}
+use Rattle.std.{proofs.lemmas.{List.{take_at, drop_at, drop-drop}, Nat.from_le_bytes-to_le_bytes_8}, specs.Int.{w64, from_le_bytes}}
 use Rattle.echo_filed.specs.{Filed.Filed, Stored.Stored, Stored.message_in, Stored.stored_bytes, declared.stored.Version.TheVariants.Second}
 use Rattle.base_store.specs.Keys.{digested, entry, keys_from, digest_at, FolderRepresents, RecordsEach}
 

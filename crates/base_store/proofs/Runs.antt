@@ -1,7 +1,6 @@
 -- Sequences of calls of a store.
 use Rattle.std.proofs.Common.{arith}
-use Rattle.disk_io.specs.{Disk.DiskState, Disk.Files, Runs.ChangesNothing}
-use Rattle.disk_io.proofs.Moments.{no_call, nothing_twice, then_run, weaker_run}
+use Rattle.disk_io.{specs.{Disk.{DiskState, Files}, Runs.ChangesNothing}, proofs.Moments.{no_call, nothing_twice, then_run, weaker_run}}
 use Rattle.base_file.specs.Base.{Base}
 use Rattle.base_store.specs.Store.{StoreState, CommitsNothing, GoesOn, IsSameStore, KeepsOthers, LooksOn, LeavesCommitted}
 
@@ -40,5 +39,4 @@ pub commits_none : (old mid new : StoreState) → CommitsNothing old mid → Goe
 commits_none old mid new first on second = grind (arith, then_run, stood_before, others_twice, same_twice)
 
 pub looks_then_commits : (old mid new : StoreState) → old.is_ready → LooksOn old mid → CommitsNothing mid new → CommitsNothing old new
-looks_then_commits old mid new ready looks second =
-    commits_none old mid new (looks_commit old mid ready looks) (looks_go_on old mid looks) second
+looks_then_commits old mid new ready looks second = commits_none old mid new (looks_commit old mid ready looks) (looks_go_on old mid looks) second

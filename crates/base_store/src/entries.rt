@@ -1,6 +1,5 @@
 //! The entries of the keys, one after another.
-ghost use Rattle.std.specs.Prelude.{◌≡◌, ◌≢◌, ◌<◌, ◌≤◌, ◌+◌, ◌*◌, ◌/◌, ◌↔◌, ℕ, List, length, take, drop, IfSome, IfNone, IsTrue};
-ghost use Rattle.std.specs.Int.{w64, from_le_bytes};
+ghost use Rattle.std.specs.{Prelude.{◌≡◌, ◌≢◌, ◌<◌, ◌≤◌, ◌+◌, ◌*◌, ◌/◌, ◌↔◌, ℕ, List, length, take, drop, IfSome, IfNone, IsTrue}, Int.{w64, from_le_bytes}};
 ghost use Rattle.base_store.specs.Keys.{digest_at, entry, place_at, place_behind};
 
 /// How many bytes an entry has.

@@ -1,7 +1,6 @@
 //! Digests that a run expects to look up: one pass over the keys finds the messages that have them.
 ghost use Rattle.std.specs.Prelude.{◌≡◌, ◌≢◌, ◌<◌, ◌+◌, ◌/◌, ◌%◌, ◌^◌, ◌⊎◌, ℕ, true, false, Contains, List, length, slice_index_or, IfNone, IfSome, OnOk};
-ghost use Rattle.base_store.specs.Expected.{AreFound, IsLastSeen, IsPlaceIn, are_set, is_expected, place_in};
-ghost use Rattle.base_store.specs.Keys.{IsPieceOf, digest_at};
+ghost use Rattle.base_store.specs.{Expected.{AreFound, IsLastSeen, IsPlaceIn, are_set, is_expected, place_in}, Keys.{IsPieceOf, digest_at}};
 
 use crate::entries::{ENTRY, stored_digest};
 use std::alloc::{AllocError, Global};

@@ -1,8 +1,7 @@
 //! Laws about the definitions. Each law is the contract of a function that does nothing.
 ghost use Rattle.std.specs.Prelude.{◌≡◌, ◌++◌, ℕ, List};
 ghost use Rattle.echo_filed.specs.Filed.{Filed, key_of};
-ghost use Rattle.base_store.specs.Keys.{FolderRepresents, AreWhereRecorded, RecordsEach, digested, digested_key};
-ghost use Rattle.base_store.specs.{Index.IsIndexOf, declared.index.Index.Index};
+ghost use Rattle.base_store.specs.{Keys.{FolderRepresents, AreWhereRecorded, RecordsEach, digested, digested_key}, Index.IsIndexOf, declared.index.Index.Index};
 
 /// In the keys of a base folder each message has an entry at its number, with the digest of its key.
 pub fn each_message_has_its_entry()

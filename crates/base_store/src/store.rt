@@ -1,5 +1,4 @@
-ghost use Rattle.std.specs.Prelude.{◌≡◌, ◌<◌, ℕ, not, false, length, take, count_by, slice_get, option_copied, IfOk, IsErrOf, OnOk, OnErr};
-ghost use Rattle.std.specs.List.{list_any};
+ghost use Rattle.std.specs.{Prelude.{◌≡◌, ◌<◌, ℕ, not, false, length, take, count_by, slice_get, option_copied, IfOk, IsErrOf, OnOk, OnErr}, List.list_any};
 ghost use Rattle.disk_io.specs.{Disk.Honestly, Runs.ChangesNothing};
 ghost use Rattle.base_file.specs.Base.{Base, IsBase, is_known};
 ghost use Rattle.echo_filed.specs.{Filed.has_id, Filed.key_of, Stubs.is_stub};

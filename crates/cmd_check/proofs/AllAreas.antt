@@ -10,8 +10,7 @@ use Rattle.echo_net.specs.{declared.verdict.Verdict.Verdict, declared.verdict.Ve
 use Rattle.cmd_status.proofs.Lines.{alone}
 use Rattle.cmd_print.specs.Pushed.{Pushes}
 use Rattle.cmd_check.specs.CheckingAll.{AreAreasChecked, AreEachChecked, CheckAllAnswers, IsAllChecked, IsAreaChecked, no_count, verdicts_status}
-use Rattle.cmd_check.specs.{AreaTags.AreAllTags, Checking.IsCheckVerdict, Further.IsVerdictShown, Further.areas_line}
-use Rattle.cmd_check.proofs.Checks.{one_reading}
+use Rattle.cmd_check.{specs.{AreaTags.AreAllTags, Checking.IsCheckVerdict, Further.{IsVerdictShown, areas_line}}, proofs.Checks.one_reading}
 
 -- a verdict that is not counted as a no is a yes
 none_is_yes : (v : Verdict) → no_count v ≡ 0 → IsYes v

@@ -1,13 +1,10 @@
 -- Tags gathered in order from the areas of link files.
 use Rattle.std.proofs.Common.{◌≡◌, ◌+◌, ◌<◌, ◌∙◌, ◌||◌, ◌↔◌, ◌∷◌, [], arith, Bool, Contains, Err, IfOk, IsTrue, List, None, Ok, Result, Some, ℕ, ap, false, inl, inr, length, map, refl, sym, take, true}
 use Rattle.std.proofs.lemmas.{Bool.cases_Bool, Bool.cond-false, Bool.cond-true, List.Folds.list_any_more, Map.Text.is_eq-slice_cmp, Map.Views.Contains-from_any, Map.Views.list_any-from_Contains}
-use Rattle.std.proofs.lemmas.Option.{slice_get_cases}
-use Rattle.std.specs.Prelude.{bytes_eq, find, is_some, option_map, slice_get}
-use Rattle.std.specs.{List.AllByRecursion, List.list_any, List.Sorted.IsStrictlySortedBy, declared.cmp.Ordering.Ordering}
-use Rattle.std.specs.declared.cmp.Ordering.TheVariants.{Less, Equal, Greater}
+use Rattle.std.{proofs.lemmas.Option.slice_get_cases, specs.Prelude.{bytes_eq, find, is_some, option_map, slice_get}}
+use Rattle.std.specs.{List.{AllByRecursion, list_any, Sorted.IsStrictlySortedBy}, declared.cmp.Ordering.{Ordering, TheVariants.{Less, Equal, Greater}}}
 use Rattle.std.specs.{Ordering.is_eq, Ordering.match_ordering, Ordering.nat_cmp, BTreeSet.insert_key, Cmp.Lexicographic.bytes_decides, Cmp.Lexicographic.nat_list_eq_equiv, Cmp.Lexicographic.slice_cmp}
-use Rattle.echo_links.specs.Links.{Area, LinkFile, has_area}
-use Rattle.echo_links.proofs.Found.{bytes_turned}
+use Rattle.echo_links.{specs.Links.{Area, LinkFile, has_area}, proofs.Found.bytes_turned}
 use Rattle.cmd_check.specs.AreaTags.{AreAllTags, has_tag, tag_order}
 
 either_twice : (a b c : Bool) → a ≡ b → (b || c) ≡ (a || (b || c))
@@ -116,8 +113,7 @@ module _ {K : Type 0} (bytes : K → List ℕ) (first : List K) where
   -- all areas of a file
   pub tags_of_file : (file : LinkFile) (keys : List K) → HaveTags file.areas keys
       → (tag : List ℕ) → has_tag bytes keys tag ≡ (has_tag bytes first tag || has_area file tag)
-  tags_of_file file keys have tag =
-      have.so tag ∙ ap (λ b. has_tag bytes first tag || b) (sym (found_any (λ (area : Area). bytes_eq area.tag tag) file.areas))
+  tags_of_file file keys have tag = have.so tag ∙ ap (λ b. has_tag bytes first tag || b) (sym (found_any (λ (area : Area). bytes_eq area.tag tag) file.areas))
 
 -- the tags of all files
 pub all_tags : {K : Type 0} (bytes : K → List ℕ) (files : List LinkFile) (keys all : List K)

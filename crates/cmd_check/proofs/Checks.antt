@@ -20,8 +20,7 @@ yes_is_good (No f) is_yes = absurd is_yes
 
 -- a property of files and a tag holds of equal ones
 pub of_same : (P : List LinkFile → List ℕ → Type 0) (f g : List LinkFile) (t u : List ℕ) → f ≡ g → t ≡ u → P f t → P g u
-of_same P f g t u same_files same_tag holds =
-    subst (λ (x : List ℕ). P g x) same_tag (subst (λ (x : List LinkFile). P x t) same_files holds)
+of_same P f g t u same_files same_tag holds = subst (λ (x : List ℕ). P g x) same_tag (subst (λ (x : List LinkFile). P x t) same_files holds)
 
 -- the lines of the verdict on link files that were read
 pub was_checked : (nodelist : Option (List ℕ)) (list : Option (List Line)) (more : Bool) (tag t : List ℕ) (inputs : List (List ℕ)) (files : List LinkFile) (verdict : Verdict)
@@ -37,8 +36,7 @@ one_reading [] [] (y ∷ b) p q = absurd q
 one_reading [] (x ∷ a) b p q = absurd p
 one_reading (bytes ∷ inputs) [] b p q = absurd p
 one_reading (bytes ∷ inputs) (x ∷ a) [] p q = absurd q
-one_reading (bytes ∷ inputs) (x ∷ a) (y ∷ b) p q =
-    ap (λ f. f ∷ a) (p.0.1 ∙ sym q.0.1) ∙ ap (λ l. y ∷ l) (one_reading inputs a b p.1 q.1)
+one_reading (bytes ∷ inputs) (x ∷ a) (y ∷ b) p q = ap (λ f. f ∷ a) (p.0.1 ∙ sym q.0.1) ∙ ap (λ l. y ∷ l) (one_reading inputs a b p.1 q.1)
 
 -- a 0 holds for each run
 pub headline : (nodelist : Option (List ℕ)) (more : Bool) (tag : List ℕ) (inputs : List (List ℕ)) (stopped : Option Fault) (old new : Output)

@@ -9,15 +9,12 @@ use Rattle.model_run.specs.{Tidy.Tidy, AnyState.NewMessagesAreInOrder}
 use Rattle.cmd_status.specs.{Devices.Output, declared.fault.Fault.Fault, declared.status.Status.Status, declared.status.Status.TheVariants.Good, Ended.Answers, Ended.IsOutOfMemory, Inputs.AreLinkFiles, Inputs.IsFirstFaultGiven, Inputs.IsLinkFault, Inputs.IsNodelistGiven}
 use Rattle.cmd_status.proofs.Lines.{alone}
 use Rattle.cmd_print.specs.Pushed.{Pushes}
-use Rattle.cmd_check.specs.CheckingAll.{IsAreaChecked, verdicts_status}
+use Rattle.cmd_check.specs.{CheckingAll.{IsAreaChecked, verdicts_status}, declared.supposing.Judged.{Judged, TheVariants.{Ended, Unknown}}}
 use Rattle.cmd_suppose.specs.{Assuming.assumed_line, Leaving.first_unknown, Leaving.texts_left}
 use Rattle.cmd_check.specs.JudgedAreas.{AreAreasJudged, AreCutWithout, AreNetLines, AreTailLines, CutsShown, IsAreaJudged, IsVerdictLeft, JudgedNet, alone_line, cut_line, is_alone, judged_areas_line, tail_lines, without_line}
 use Rattle.cmd_suppose.specs.SupposedFiles.{AreSupposed, AreUnseen, IsSupposedFile, ReadsSupposed, supposed_here, unseen_line}
 use Rattle.cmd_check.specs.Supposing.{AreJudgedTags, EndsOrUnknown, IsFirstUnknown, IsJudged, IsJudgingFault, IsKnownFault, IsKnownJudged, IsLeftShown, IsNetShown, IsPromisedSupposing, IsSupposingShown, IsWhole, IsWrittenFault, SupposingAnswers, ended_as}
-use Rattle.cmd_check.specs.declared.supposing.Judged.{Judged, TheVariants.Ended, TheVariants.Unknown}
-use Rattle.cmd_check.proofs.Checks.{one_reading}
-use Rattle.cmd_check.proofs.Printing.{answers_as}
-use Rattle.cmd_check.proofs.AllAreas.{all_yes, area_in_order, area_tidy, each_tag, in_order, of_tag, status_good}
+use Rattle.cmd_check.proofs.{Checks.one_reading, Printing.answers_as, AllAreas.{all_yes, area_in_order, area_tidy, each_tag, in_order, of_tag, status_good}}
 
 module _ (net : JudgedNet) (list : Option (List Line)) (more listed : Bool) where
   -- all lines of an area

@@ -3,9 +3,8 @@ use Rattle.std.proofs.Common.{◌≡◌, ℕ, List, [], arith}
 use Rattle.echo_links.specs.Links.{LinkFile, upper}
 use Rattle.echo_net.specs.{declared.drawing.Drawing.Drawing, declared.verdict.Verdict.Verdict, Drawn.IsDrawing}
 use Rattle.cmd_status.specs.{declared.status.Status.Status, Inputs.AreLinkFiles}
-use Rattle.cmd_check.specs.{Checking.IsCheckVerdict, Checking.verdict_status, Picturing.IsPictured}
+use Rattle.cmd_check.{specs.{Checking.{IsCheckVerdict, verdict_status}, Picturing.IsPictured}, proofs.Checks.{good_is_yes, of_same, yes_is_good}}
 use Rattle.cmd_print.specs.Pictured.{picture_lines}
-use Rattle.cmd_check.proofs.Checks.{good_is_yes, of_same, yes_is_good}
 
 -- the lines that draw the area of link files that were read
 pub was_pictured : (tag t : List ℕ) (inputs : List (List ℕ)) (files : List LinkFile) (verdict : Verdict) (drawing : Drawing) (lines : List ℕ) (status : Status)

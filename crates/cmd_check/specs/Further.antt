@@ -1,6 +1,5 @@
 -- The lines of `check` for the verdict on an area, and with `--more` for the faults that the verdict does not name.
-use Rattle.std.specs.Prelude.{◌≡◌, ℕ, ◌-◌, Bool, true, false, List, [], ◌++◌, codes, decimal, Option}
-use Rattle.std.specs.List.{flat_map}
+use Rattle.std.specs.{Prelude.{◌≡◌, ℕ, ◌-◌, Bool, true, false, List, [], ◌++◌, codes, decimal, Option}, List.flat_map}
 use Rattle.echo_links.specs.Links.{LinkFile}
 use Rattle.echo_nodelist.specs.declared.line.Line.{Line}
 use Rattle.echo_net.specs.{declared.verdict.NetFault.NetFault, declared.verdict.Verdict.Verdict, AllFaults.AreFurther, Printed.fault_text}
@@ -13,8 +12,7 @@ also_line fault = codes "also " ++ (fault_text fault ++ codes "\n")
 -- The lines of the faults that the verdict does not name; no line if they are not requested.
 abbrev pub FurtherShown : List LinkFile → List ℕ → Bool → Verdict → List ℕ → Type 0
 FurtherShown files tag false verdict lines = lines ≡ []
-FurtherShown files tag true verdict lines =
-    (further : List NetFault) × AreFurther files tag verdict further × (lines ≡ flat_map also_line further)
+FurtherShown files tag true verdict lines = (further : List NetFault) × AreFurther files tag verdict further × (lines ≡ flat_map also_line further)
 
 -- The lines of a verdict without further faults, with those of these faults after the first line.
 pub record IsMoreShown (files : List LinkFile) (tag : List ℕ) (list : Option (List Line)) (verdict : Verdict) (lines : List ℕ) : Type 0 where
@@ -33,5 +31,4 @@ IsVerdictShown files tag list true verdict lines = IsMoreShown files tag list ve
 -- requested.
 abbrev pub areas_line : Bool → ℕ → ℕ → List ℕ
 areas_line false areas noes = []
-areas_line true areas noes =
-    codes "areas " ++ (decimal areas ++ (codes " yes " ++ (decimal (areas - noes) ++ (codes " no " ++ (decimal noes ++ codes "\n")))))
+areas_line true areas noes = codes "areas " ++ (decimal areas ++ (codes " yes " ++ (decimal (areas - noes) ++ (codes " no " ++ (decimal noes ++ codes "\n")))))

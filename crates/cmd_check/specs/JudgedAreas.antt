@@ -7,9 +7,8 @@ use Rattle.echo_links.specs.Links.{LinkFile, has_area}
 use Rattle.echo_nodelist.specs.declared.line.Line.{Line}
 use Rattle.cmd_status.specs.{Devices.Output, declared.fault.Fault.Fault, Ended.Answers}
 use Rattle.cmd_check.specs.CheckingAll.{AreEachChecked, IsAreaChecked}
-use Rattle.cmd_suppose.specs.{Assuming.assumed_line, Assuming.assumed_note, Assuming.link_word}
+use Rattle.cmd_suppose.specs.{Assuming.{assumed_line, assumed_note, link_word}, SupposedFiles.{AreUnseen, supposed_here, unseen_line, unseen_note}}
 use Rattle.echo_net.specs.{Parts.AreCutOff}
-use Rattle.cmd_suppose.specs.SupposedFiles.{AreUnseen, supposed_here, unseen_line, unseen_note}
 
 -- The given files, these with those of the supposed systems, what is left of them, the supposed and the left out
 -- systems.
@@ -41,8 +40,7 @@ without_line a = codes "without " ++ (address_text a ++ codes "\n")
 
 -- The lines after those of the verdict.
 abbrev pub tail_lines : List Address → List Address → List (List Address) → List Address → List ℕ
-tail_lines here unseen cut out =
-    flat_map assumed_line here ++ (unseen_line unseen ++ (flat_map cut_line cut ++ flat_map without_line out))
+tail_lines here unseen cut out = flat_map assumed_line here ++ (unseen_line unseen ++ (flat_map cut_line cut ++ flat_map without_line out))
 
 -- The parts that are cut off, if systems are left out.
 abbrev pub AreCutWithout : List Address → List LinkFile → List ℕ → List (List Address) → Type 0
@@ -96,10 +94,8 @@ abbrev pub without_note : List ℕ → Address → List ℕ
 without_note begin a = begin ++ without_line a
 
 abbrev pub supposed_notes : List ℕ → List Address → List Address → List Address → List ℕ
-supposed_notes begin assumed unseen out =
-    flat_map (assumed_note begin) assumed ++ (unseen_note begin unseen ++ flat_map (without_note begin) out)
+supposed_notes begin assumed unseen out = flat_map (assumed_note begin) assumed ++ (unseen_note begin unseen ++ flat_map (without_note begin) out)
 
 -- The right result of printing these notes.
 abbrev pub PrintsSupposed : List ℕ → List Address → List Address → List Address → Output → Output → Result (Unit {0}) Fault → Type 0
-PrintsSupposed begin assumed unseen out old new answer =
-    Answers (λ lines done. lines ≡ supposed_notes begin assumed unseen out) (λ fault. ⊥) old new answer
+PrintsSupposed begin assumed unseen out old new answer = Answers (λ lines done. lines ≡ supposed_notes begin assumed unseen out) (λ fault. ⊥) old new answer

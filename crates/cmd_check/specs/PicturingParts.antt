@@ -1,11 +1,9 @@
 -- The answer of `picture --without`.
-use Rattle.std.specs.Prelude.{◌≡◌, ◌↔◌, ◌⊎◌, ℕ, ◌+◌, ◌%◌, Bool, true, false, List, [], ◌∷◌, ◌++◌, codes, decimal, Result}
-use Rattle.std.specs.List.{flat_map}
+use Rattle.std.specs.{Prelude.{◌≡◌, ◌↔◌, ◌⊎◌, ℕ, ◌+◌, ◌%◌, Bool, true, false, List, [], ◌∷◌, ◌++◌, codes, decimal, Result}, List.flat_map}
 use Rattle.echo_addr.specs.{declared.address.Address.Address, Address.address_text}
 use Rattle.echo_links.specs.Links.{LinkFile, upper}
 use Rattle.model_run.specs.Tidy.{Tidy}
-use Rattle.echo_net.specs.Parts.{AreCutOff}
-use Rattle.echo_net.specs.{declared.drawing.Drawing.Drawing, declared.verdict.Verdict.Verdict, Drawn.IsDrawing}
+use Rattle.echo_net.specs.{Parts.AreCutOff, declared.{drawing.Drawing.Drawing, verdict.Verdict.Verdict}, Drawn.IsDrawing}
 use Rattle.cmd_status.specs.{Devices.Output, declared.fault.Fault.Fault, declared.status.Status.Status, declared.status.Status.TheVariants.Good, Ended.Answers, Inputs.AreLinkFiles, Inputs.IsLinkFault}
 use Rattle.cmd_print.specs.Pictured.{head_lines, link_line, system_line}
 use Rattle.cmd_check.specs.{Checking.IsCheckVerdict, Checking.verdict_status, JudgedAreas.alone_line, JudgedAreas.is_alone}
@@ -13,13 +11,11 @@ use Rattle.cmd_suppose.specs.Leaving.{texts_left}
 
 -- The lines of a drawing but the last one.
 abbrev pub picture_front : List ℕ → Verdict → Drawing → List ℕ
-picture_front tag verdict drawing =
-    head_lines tag verdict ++ (flat_map system_line drawing.systems ++ flat_map (link_line []) drawing.links)
+picture_front tag verdict drawing = head_lines tag verdict ++ (flat_map system_line drawing.systems ++ flat_map (link_line []) drawing.links)
 
 -- The line of a system that is filled with the colour of this number.
 abbrev pub filled_line : ℕ → Address → List ℕ
-filled_line colour a =
-    codes "\"" ++ (address_text a ++ (codes "\" [style=filled, fillcolor=\"/pastel19/" ++ (decimal colour ++ codes "\"];\n")))
+filled_line colour a = codes "\"" ++ (address_text a ++ (codes "\" [style=filled, fillcolor=\"/pastel19/" ++ (decimal colour ++ codes "\"];\n")))
 
 -- The lines of the systems of each part, with the colours 1 to 9 in turn. The first of these parts has this number.
 abbrev pub filled_lines : ℕ → List (List Address) → List ℕ
@@ -53,10 +49,8 @@ pub record IsPicturedWithout (tag : List ℕ) (inputs : List (List ℕ)) (out : 
 
 -- The first fault of the link files, or of what is left of them.
 abbrev pub IsFaultWithout : List (List ℕ) → List Address → Fault → Type 0
-IsFaultWithout inputs out fault =
-    IsLinkFault inputs fault ⊎ ((files : List LinkFile) × AreLinkFiles inputs files × IsLinkFault (texts_left out files) fault)
+IsFaultWithout inputs out fault = IsLinkFault inputs fault ⊎ ((files : List LinkFile) × AreLinkFiles inputs files × IsLinkFault (texts_left out files) fault)
 
 -- The right result of drawing what is left of an area.
 abbrev pub PictureWithoutAnswers : List ℕ → List (List ℕ) → List Address → Output → Output → Result Status Fault → Type 0
-PictureWithoutAnswers tag inputs out old new answer =
-    Answers (IsPicturedWithout tag inputs out) (IsFaultWithout inputs out) old new answer
+PictureWithoutAnswers tag inputs out old new answer = Answers (IsPicturedWithout tag inputs out) (IsFaultWithout inputs out) old new answer

@@ -1,6 +1,5 @@
 //! What `picture --without` answers.
-ghost use Rattle.std.specs.Prelude.{◌≡◌, ◌++◌, IfOk, OnOk};
-ghost use Rattle.std.specs.List.{flat_map};
+ghost use Rattle.std.specs.{Prelude.{◌≡◌, ◌++◌, IfOk, OnOk}, List.flat_map};
 ghost use Rattle.cmd_status.specs.{Devices.output_of, Ended.Answers};
 ghost use Rattle.cmd_print.specs.Pushed.{Pushes};
 ghost use Rattle.cmd_check.specs.JudgedAreas.{is_alone};

@@ -1,6 +1,5 @@
 //! The lines of `check` with `--assume`, `--assume-missing` and `--without`.
-ghost use Rattle.std.specs.Prelude.{◌≡◌, ◌≤◌, ◌++◌, ◌&&◌, List, IfOk, OnOk, length, option_copied};
-ghost use Rattle.std.specs.List.{AllZip, count_by, flat_map};
+ghost use Rattle.std.specs.{Prelude.{◌≡◌, ◌≤◌, ◌++◌, ◌&&◌, List, IfOk, OnOk, length, option_copied}, List.{AllZip, count_by, flat_map}};
 ghost use Rattle.echo_links.specs.Links.{LinkFile};
 ghost use Rattle.echo_net.specs.Listings.{IsListing};
 ghost use Rattle.cmd_status.specs.{Devices.output_of};

@@ -1,8 +1,7 @@
 -- The status of a fault is never 0.
 use Rattle.std.proofs.Common.{◌≡◌, arith}
 use Rattle.cmd_status.specs.Status.{base_status, link_status, node_status, packet_status, post_status, scan_status, status_of, text_status}
-use Rattle.cmd_status.specs.declared.status.Status.TheVariants.{Good}
-use Rattle.cmd_status.specs.declared.fault.Fault.{Fault}
+use Rattle.cmd_status.specs.declared.{status.Status.TheVariants.Good, fault.Fault.Fault}
 use Rattle.cmd_status.specs.declared.fault.Fault.TheVariants as fault
 use Rattle.echo_links.specs.declared.fault.LinkFault.{LinkFault}
 use Rattle.base_file.specs.declared.fault.BaseFault.{BaseFault}

@@ -8,8 +8,7 @@ use Rattle.echo_packet.specs.declared.fault.{Field.Field, PacketFault.PacketFaul
 use Rattle.echo_packet.specs.declared.fault.Field.TheVariants as field
 use Rattle.echo_packet.specs.declared.fault.PacketFault.TheVariants as packet
 use Rattle.cmd_notes.specs.declared.reasons.{FaultyPacket.FaultyPacket, LongField.LongField, Misdelivered.Misdelivered, PacketPlace.PacketPlace, PathState.PathState, Reason.Reason, State.State}
-use Rattle.cmd_notes.specs.declared.reasons.{WordForm.WordForm, WrongLine.WrongLine, WrongWord.WrongWord}
-use Rattle.cmd_notes.specs.declared.reasons.{Cost.Cost, NotSeen.NotSeen}
+use Rattle.cmd_notes.specs.declared.reasons.{WordForm.WordForm, WrongLine.WrongLine, WrongWord.WrongWord, Cost.Cost, NotSeen.NotSeen}
 use Rattle.cmd_notes.specs.declared.reasons.Cost.TheVariants as cost
 use Rattle.cmd_notes.specs.declared.reasons.NotSeen.TheVariants as unseen
 use Rattle.cmd_notes.specs.declared.reasons.Reason.TheVariants as reason
@@ -45,8 +44,7 @@ abbrev pub word_reason : LinkFault → List ℕ → List ℕ
 word_reason fault word = complaint fault ++ (codes " '" ++ (printed_word word ++ (codes "', " ++ expectation fault)))
 
 abbrev pub line_reason : WrongLine → List ℕ
-line_reason line =
-    printed_word line.path.now ++ (codes ":" ++ (decimal (fault_number line.fault) ++ (codes ": " ++ word_reason line.fault line.word.now)))
+line_reason line = printed_word line.path.now ++ (codes ":" ++ (decimal (fault_number line.fault) ++ (codes ": " ++ word_reason line.fault line.word.now)))
 
 abbrev pub state_words : State → List ℕ
 state_words state.NoFile = codes "no such file"
@@ -68,8 +66,7 @@ packet_words place =
     codes "packet " ++ (decimal place.number ++ (codes " of " ++ (decimal place.packets ++ (codes ", " ++ (printed_word place.path.now ++ codes ": it ")))))
 
 abbrev pub misdelivered_reason : Misdelivered → List ℕ
-misdelivered_reason wrong =
-    packet_words wrong.packet ++ (codes "is for " ++ (address_text wrong.to ++ (codes ", this is " ++ address_text wrong.own)))
+misdelivered_reason wrong = packet_words wrong.packet ++ (codes "is for " ++ (address_text wrong.to ++ (codes ", this is " ++ address_text wrong.own)))
 
 abbrev pub packet_complaint : PacketFault → List ℕ
 packet_complaint (packet.Truncated at) = codes "is cut off"
@@ -95,8 +92,7 @@ field_name field.Subject = codes "subject"
 field_name field.Text = codes "text"
 
 abbrev pub long_reason : LongField → List ℕ
-long_reason long =
-    field_name long.field ++ (codes " is " ++ (decimal long.length ++ (codes " bytes long, " ++ (decimal long.most ++ codes " are allowed"))))
+long_reason long = field_name long.field ++ (codes " is " ++ (decimal long.length ++ (codes " bytes long, " ++ (decimal long.most ++ codes " are allowed"))))
 
 -- The fault of a word of the command line, and its expected form.
 abbrev pub form_complaint : WordForm → List ℕ

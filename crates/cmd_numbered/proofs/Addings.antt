@@ -1,12 +1,10 @@
 -- Messages added to a JAM base, and why they were not.
 use Rattle.std.proofs.Common.{◌≡◌, ◌≤◌, ◌+◌, ◌-◌, ◌∙◌, ℕ, zero, suc, nat_lt, Bool, true, false, List, [], ◌++◌, length, Option, Some, None, OnErr, Result, Ok, Err, refl, sym, ap, subst, arith, add-one, append_assoc, suc-add, zero-add}
-use Rattle.std.proofs.lemmas.List.{append-nil}
-use Rattle.std.specs.{Prelude.if◌then◌else◌, Prelude.slice_get, Io.KnownBytes.Appends}
+use Rattle.std.{proofs.lemmas.List.append-nil, specs.{Prelude.{if◌then◌else◌, slice_get}, Io.KnownBytes.Appends}}
 use Rattle.echo_filed.specs.Filed.{Filed}
 use Rattle.echo_jam.specs.Fields.{body_of}
 use Rattle.base_file.specs.Base.{Base}
-use Rattle.cmd_status.specs.Lines.{WritesFront}
-use Rattle.cmd_status.proofs.Lines.{begun_after}
+use Rattle.cmd_status.{specs.Lines.WritesFront, proofs.Lines.begun_after}
 use Rattle.cmd_numbered.specs.JamAdded.{Added, IsUnadded, IsUnsent, added_at, added_of, is_added, with_message}
 use Rattle.cmd_numbered.specs.declared.{adding.JamEnd.JamEnd, jam_export_error.JamExportError.JamExportError}
 

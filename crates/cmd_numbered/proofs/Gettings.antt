@@ -1,6 +1,5 @@
 -- The files of messages, and why they were not made.
-use Rattle.std.proofs.Common.{◌≡◌, ◌≤◌, ℕ, Bool, true, List, [], ◌∷◌, ◌∙◌, ap, sym, Option, Some, Result, arith}
-use Rattle.std.specs.{Prelude.if◌then◌else◌, Result.IfErr}
+use Rattle.std.{proofs.Common.{◌≡◌, ◌≤◌, ℕ, Bool, true, List, [], ◌∷◌, ◌∙◌, ap, sym, Option, Some, Result, arith}, specs.{Prelude.if◌then◌else◌, Result.IfErr}}
 use Rattle.echo_filed.specs.Filed.{Filed}
 use Rattle.base_file.specs.Base.{Base}
 use Rattle.base_folder.proofs.Fetchings.{unread_since}

@@ -1,8 +1,7 @@
 use Rattle.std.proofs.Common.{◌≡◌, ◌≤◌, ◌+◌, ⊎_elim, ℕ, zero, suc, ◌<◌, ◌++◌, List, [], ◌∷◌, Option, Some, Result, ◌∙◌, refl, subst, arith, slice_get, length}
 use Rattle.std.proofs.lemmas.Bool.{cases_lt}
 use Rattle.base_file.specs.Base.{Base}
-use Rattle.base_folder.specs.Source.{SourceState}
-use Rattle.base_folder.proofs.Fetchings.{never_read}
+use Rattle.base_folder.{specs.Source.SourceState, proofs.Fetchings.never_read}
 use Rattle.echo_addr.specs.declared.address.Address.{Address}
 use Rattle.echo_filed.specs.Filed.{Filed}
 use Rattle.echo_links.specs.Links.{LinkFile}

@@ -65,8 +65,7 @@ is_added area first cursor headers index i m = is_exported area first cursor i m
 -- The message with this number, if it is added. Messages before the cursor were scanned.
 abbrev pub added_at : List ℕ → ℕ → ℕ → List ℕ → List ℕ → JamEnd → ℕ → Option Filed → Added → Added
 added_at area first cursor headers index end i None a = a
-added_at area first cursor headers index end i (Some m) a =
-    if is_added area first cursor headers index i m then with_message (nat_lt i cursor) end i m a else a
+added_at area first cursor headers index end i (Some m) a = if is_added area first cursor headers index i m then with_message (nat_lt i cursor) end i m a else a
 
 -- The additions of the first `n` messages.
 abbrev pub added_of : List ℕ → ℕ → ℕ → List ℕ → List ℕ → JamEnd → List Filed → ℕ → Added

@@ -18,5 +18,4 @@ name_of number = decimal number ++ codes ".msg"
 
 -- Whether a file with this name is the staging file of a stored message that a stopped run left.
 abbrev pub is_left : List ℕ → Bool
-is_left name =
-    bytes_eq (drop (length name - 10) name) (codes ".~msg~.new") && is_some (number_of_name (take (length name - 10) name))
+is_left name = bytes_eq (drop (length name - 10) name) (codes ".~msg~.new") && is_some (number_of_name (take (length name - 10) name))

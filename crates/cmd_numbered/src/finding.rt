@@ -1,6 +1,5 @@
 //! The message of a base that has an id.
-ghost use Rattle.std.specs.Prelude.{ℕ, Option, ◌≡◌, ◌≢◌, ◌≤◌, ◌<◌, ◌^◌, not, IfOk, MatchOption, OnOk, length, option_copied, take_while};
-ghost use Rattle.std.specs.Option.{option_map};
+ghost use Rattle.std.specs.{Prelude.{ℕ, Option, ◌≡◌, ◌≢◌, ◌≤◌, ◌<◌, ◌^◌, not, IfOk, MatchOption, OnOk, length, option_copied, take_while}, Option.option_map};
 ghost use Rattle.base_file.specs.Base.{Base};
 ghost use Rattle.base_folder.specs.Source.{AreLegible};
 ghost use Rattle.echo_addr.specs.Entries.{is_blank};

@@ -1,6 +1,5 @@
 //! The lines that report what an export made, and that refuse to post a message.
-ghost use Rattle.std.specs.Prelude.{◌≡◌, ◌++◌, false, slice_get, unwrap_or, IfErr, OnErr, OnOk};
-ghost use Rattle.std.specs.Io.KnownBytes.{Appends};
+ghost use Rattle.std.specs.{Prelude.{◌≡◌, ◌++◌, false, slice_get, unwrap_or, IfErr, OnErr, OnOk}, Io.KnownBytes.Appends};
 ghost use Rattle.cmd_status.specs.{Ended.Stops, Lines.WritesFront, declared.status.Status.TheVariants.Refused};
 ghost use Rattle.cmd_numbered.specs.Reported.{added_line, cuts_line, exported_line, left_line, refused_line, reported_line};
 

@@ -1,6 +1,5 @@
 -- The lines of the systems that a nodelist does not hold.
-use Rattle.std.specs.{Prelude.AllPairs, Prelude.Contains, Prelude.◌↔◌, Prelude.true, List.flat_map}
-use Rattle.std.proofs.Common.{◌≡◌, ℕ, List, ◌++◌, Some, refl}
+use Rattle.std.{specs.{Prelude.{AllPairs, Contains, ◌↔◌, true}, List.flat_map}, proofs.Common.{◌≡◌, ℕ, List, ◌++◌, Some, refl}}
 use Rattle.echo_addr.specs.declared.address.Address.{Address}
 use Rattle.echo_links.specs.Links.{LinkFile}
 use Rattle.echo_filed.specs.Sets.{address_before}

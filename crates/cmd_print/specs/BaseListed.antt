@@ -80,13 +80,11 @@ asked_text form area first cursor i (Some m) = if is_asked area first i m then l
 
 -- The lines of the requested messages among the first `count` of a base.
 abbrev pub messages_text : ListForm → Option (List ℕ) → ℕ → List Filed → ℕ → ℕ → List ℕ
-messages_text form area first base cursor count =
-    flat_map (λ i. asked_text form area first cursor i (slice_get base i)) (range_with_len 0 count)
+messages_text form area first base cursor count = flat_map (λ i. asked_text form area first cursor i (slice_get base i)) (range_with_len 0 count)
 
 -- The number of messages of the base, and the number of those that wait.
 abbrev pub total_text : ℕ → ℕ → List ℕ
 total_text messages waiting = codes "end " ++ (decimal messages ++ (codes " messages, " ++ (decimal waiting ++ codes " waiting\n")))
 
 abbrev pub base_text : ListForm → Option (List ℕ) → ℕ → List Filed → ℕ → List ℕ
-base_text form area first base cursor =
-    messages_text form area first base cursor (length base) ++ total_text (length base) (length base - cursor)
+base_text form area first base cursor = messages_text form area first base cursor (length base) ++ total_text (length base) (length base - cursor)

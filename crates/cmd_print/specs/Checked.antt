@@ -1,6 +1,5 @@
 -- The lines of `check`.
-use Rattle.std.specs.Prelude.{◌≡◌, ℕ, ◌↔◌, true, AllPairs, Contains, List, [], ◌++◌, codes, decimal, Option, Some, None}
-use Rattle.std.specs.List.{flat_map}
+use Rattle.std.specs.{Prelude.{◌≡◌, ℕ, ◌↔◌, true, AllPairs, Contains, List, [], ◌++◌, codes, decimal, Option, Some, None}, List.flat_map}
 use Rattle.echo_addr.specs.{declared.address.Address.Address, Address.address_text}
 use Rattle.echo_charset.specs.Words.{printed_word}
 use Rattle.echo_links.specs.Links.{LinkFile}
@@ -11,8 +10,7 @@ use Rattle.echo_net.specs.{declared.presence.Absence.Absence, declared.presence.
 
 -- The line of an area in order, with its numbers of systems and links; the tag is printed as a word.
 abbrev pub yes_text : List ℕ → ℕ → ℕ → List ℕ
-yes_text tag systems links =
-    codes "yes " ++ (printed_word tag ++ (codes " " ++ (decimal systems ++ (codes " systems " ++ (decimal links ++ codes " links")))))
+yes_text tag systems links = codes "yes " ++ (printed_word tag ++ (codes " " ++ (decimal systems ++ (codes " systems " ++ (decimal links ++ codes " links")))))
 
 abbrev pub verdict_text : List ℕ → Verdict → List ℕ
 verdict_text tag (Yes systems links) = yes_text tag systems links
@@ -36,8 +34,7 @@ pub record AreAbsent (files : List LinkFile) (tag : List ℕ) (list : List Line)
 -- Their lines; none without a nodelist.
 abbrev pub AbsencesShown : List LinkFile → List ℕ → Option (List Line) → List ℕ → Type 0
 AbsencesShown files tag None lines = lines ≡ []
-AbsencesShown files tag (Some list) lines =
-    (absent : List (Address × Absence)) × AreAbsent files tag list absent × (lines ≡ flat_map absence_line absent)
+AbsencesShown files tag (Some list) lines = (absent : List (Address × Absence)) × AreAbsent files tag list absent × (lines ≡ flat_map absence_line absent)
 
 -- The line of the verdict, and then those of the systems that the nodelist does not hold.
 pub record CheckShown (files : List LinkFile) (tag : List ℕ) (list : Option (List Line)) (verdict : Verdict) (lines : List ℕ) : Type 0 where

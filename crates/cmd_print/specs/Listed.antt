@@ -7,8 +7,7 @@ use Rattle.echo_charset.specs.Escaped.{escaped_line}
 use Rattle.cmd_print.specs.Shown.{zero_padded}
 
 abbrev pub mismatch_line : ℕ → ℕ → List ℕ
-mismatch_line stated computed =
-    codes "crc mismatch stated " ++ (zero_padded 5 stated ++ (codes " computed " ++ (zero_padded 5 computed ++ codes "\n")))
+mismatch_line stated computed = codes "crc mismatch stated " ++ (zero_padded 5 stated ++ (codes " computed " ++ (zero_padded 5 computed ++ codes "\n")))
 
 abbrev pub crc_text : CrcLine → List ℕ
 crc_text Absent = codes "crc absent\n"

@@ -1,6 +1,5 @@
 -- The lines of `picture`, in the language DOT of Graphviz.
-use Rattle.std.specs.Prelude.{ℕ, ◌==◌, ◌&&◌, ◌||◌, Bool, true, false, if◌then◌else◌, List, [], ◌∷◌, ◌++◌, codes, decimal, filter, map}
-use Rattle.std.specs.List.{flat_map}
+use Rattle.std.specs.{Prelude.{ℕ, ◌==◌, ◌&&◌, ◌||◌, Bool, true, false, if◌then◌else◌, List, [], ◌∷◌, ◌++◌, codes, decimal, filter, map}, List.flat_map}
 use Rattle.echo_addr.specs.Address.{address_text}
 use Rattle.echo_charset.specs.Words.{printed_word}
 use Rattle.echo_links.specs.Links.{same_address}
@@ -26,8 +25,7 @@ system_marks Named = codes " [color=red]"
 system_marks OnLoop = codes " [color=red, penwidth=3]"
 
 abbrev pub system_line : DrawnSystem → List ℕ
-system_line s =
-    codes "\"" ++ (address_text s.system ++ (codes "\"" ++ (carrier_marks s.carries ++ (system_marks s.mark ++ codes ";\n"))))
+system_line s = codes "\"" ++ (address_text s.system ++ (codes "\"" ++ (carrier_marks s.carries ++ (system_marks s.mark ++ codes ";\n"))))
 
 -- A link that one side lists is red and dashed, with an arrow from this side.
 abbrev pub side_marks : Sides → List ℕ
@@ -59,8 +57,7 @@ steps_label [] = []
 steps_label (n ∷ later) = codes " [label=\"" ++ (decimal n ++ (flat_map later_step later ++ codes "\"]"))
 
 abbrev pub link_line : List Crossing → DrawnLink → List ℕ
-link_line crossings l =
-    ends_text l ++ (side_marks l.sides ++ (loop_marks l.on_loop ++ (steps_label (steps_at l crossings) ++ codes ";\n")))
+link_line crossings l = ends_text l ++ (side_marks l.sides ++ (loop_marks l.on_loop ++ (steps_label (steps_at l crossings) ++ codes ";\n")))
 
 -- The lines before the systems: the tag is the name of the graph, the verdict its label.
 abbrev pub head_lines : List ℕ → Verdict → List ℕ

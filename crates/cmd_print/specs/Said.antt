@@ -14,8 +14,7 @@ found_line word (Some bytes) = escaped_line word bytes
 
 -- The line with the numbers of entries of SEEN-BY and PATH, and of the tokens there that are no entries.
 abbrev pub counts_line : ℕ → ℕ → ℕ → List ℕ
-counts_line seen path dropped =
-    codes "seen " ++ (decimal seen ++ (codes " path " ++ (decimal path ++ (codes " dropped " ++ (decimal dropped ++ codes "\n")))))
+counts_line seen path dropped = codes "seen " ++ (decimal seen ++ (codes " path " ++ (decimal path ++ (codes " dropped " ++ (decimal dropped ++ codes "\n")))))
 
 -- The lines of the id, the id replied to, the tear and the origin line.
 abbrev pub found_lines : List (List ℕ) → List ℕ

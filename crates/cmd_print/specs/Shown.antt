@@ -1,6 +1,5 @@
 -- The lines of `show` for a packet.
-use Rattle.std.specs.Prelude.{◌≡◌, ℕ, ◌+◌, ◌-◌, Bool, List, [], ◌∷◌, ◌++◌, length, replicate, codes, decimal, if◌then◌else◌}
-use Rattle.std.specs.List.{flat_map}
+use Rattle.std.specs.{Prelude.{◌≡◌, ℕ, ◌+◌, ◌-◌, Bool, List, [], ◌∷◌, ◌++◌, length, replicate, codes, decimal, if◌then◌else◌}, List.flat_map}
 use Rattle.echo_addr.specs.{declared.address.Address.Address, Address.address_text}
 use Rattle.hex.specs.Hex.{encode_lower}
 use Rattle.echo_packet.specs.{declared.header.Header.Header, Message.Message, Message.message_bytes}
@@ -37,8 +36,7 @@ packet_line h = named_systems h ++ (codes " at " ++ (date h ++ (codes " " ++ (ti
 
 -- The three lines of a header.
 abbrev pub header_lines : Header → List ℕ
-header_lines h =
-    packet_line h ++ (codes "password " ++ (encode_lower h.password ++ (codes "\nfill " ++ (encode_lower h.fill ++ codes "\n"))))
+header_lines h = packet_line h ++ (codes "password " ++ (encode_lower h.password ++ (codes "\nfill " ++ (encode_lower h.fill ++ codes "\n"))))
 
 abbrev pub net_node : ℕ → ℕ → List ℕ
 net_node net node = decimal net ++ (codes "/" ++ decimal node)

@@ -1,7 +1,6 @@
 -- Bytes of several ids, cut by their lengths.
 use Rattle.std.proofs.Common.{◌≡◌, ◌≤◌, ℕ, ◌+◌, ◌<◌, List, [], ◌∷◌, ◌++◌, length, map, take, drop, get_or, sym, ap, ◌∙◌, arith, append_assoc, append-nil, length-append}
-use Rattle.std.proofs.lemmas.List.{drop_all, drop_more}
-use Rattle.std.specs.{List.flat_map, Prelude.min}
+use Rattle.std.{proofs.lemmas.List.{drop_all, drop_more}, specs.{List.flat_map, Prelude.min}}
 
 pub record IsCut (ids done : List (List ℕ)) (rest lengths : List ℕ) (at : ℕ) : Type 0 where
   pub later : List (List ℕ)

@@ -1,9 +1,7 @@
 -- The lines of some items are passed on, one by one.
 use Rattle.std.proofs.Common.{◌≡◌, ℕ, ◌+◌, ◌<◌, List, [], ◌∷◌, ◌++◌, length, take, drop, get_or, Option, Result, Ok, Err, sym, ap, subst, ◌∙◌, append_assoc, append-nil}
-use Rattle.std.proofs.lemmas.{Grind.flat_map-append, List.take-append-drop, List.take_more}
-use Rattle.std.specs.{List.flat_map, Result.OnErr}
-use Rattle.cmd_status.specs.Lines.{PassesOn, WritesFront}
-use Rattle.cmd_status.proofs.Lines.{begun_more, front_more, passed_more}
+use Rattle.std.{proofs.lemmas.{Grind.flat_map-append, List.{take-append-drop, take_more}}, specs.{List.flat_map, Result.OnErr}}
+use Rattle.cmd_status.{specs.Lines.{PassesOn, WritesFront}, proofs.Lines.{begun_more, front_more, passed_more}}
 
 pub at_error : {T E P : Type 0} (r : Result T E) → P → OnErr r P
 at_error (Ok x) p = tt

@@ -1,8 +1,6 @@
 -- A packet of a repair is that of the model.
 use Rattle.std.proofs.Common.{◌≡◌, ℕ, zero, suc, ◌+◌, Bool, true, false, List, [], ◌∷◌, ◌++◌, length, map, Option, Some, None, inl, inr, refl, sym, ap, subst, ◌∙◌}
-use Rattle.std.proofs.lemmas.Bool.{cases_Bool}
-use Rattle.std.specs.Prelude.{◌&&◌, ◌||◌, not, bytes_eq, filter}
-use Rattle.std.specs.{Io.KnownBytes.Appends, List.AllByRecursion, List.list_any}
+use Rattle.std.{proofs.lemmas.Bool.cases_Bool, specs.{Prelude.{◌&&◌, ◌||◌, not, bytes_eq, filter}, Io.KnownBytes.Appends, List.{AllByRecursion, list_any}}}
 use Rattle.base_file.specs.Base.{Base}
 use Rattle.echo_addr.specs.declared.address.Address.{Address}
 use Rattle.echo_charset.specs.Escaped.{escaped}
@@ -16,8 +14,7 @@ use Rattle.model_run.proofs.Lists.{filter-no, filter-yes}
 use Rattle.model_run.specs.Repair as model
 use Rattle.model_steps.specs.{Resending.is_whole_in, Scanning.copy_to, Scanning.header_to, declared.stamp.Stamp.Stamp}
 use Rattle.cmd_repair.specs.{IdList.IsIdList, IdList.id_line, IdList.id_words, Ids.IsId, Repair.SendsPacket, Repair.is_held, Repair.is_named, Repair.is_sent, Rest.HaveByteIds, Rest.SendsRest, Words.area_words, Words.end_words, Words.id_word, Words.is_id_line}
-use Rattle.cmd_repair.proofs.IdWords.{taken}
-use Rattle.cmd_repair.proofs.Unescaped.{AreSmall, same-test, text-small}
+use Rattle.cmd_repair.proofs.{IdWords.taken, Unescaped.{AreSmall, same-test, text-small}}
 
 bytes-small : (bs : List ℕ) → AreBytes bs → AreSmall bs
 bytes-small [] h = tt

@@ -1,11 +1,9 @@
 -- Bytes are read back from their escaped form. So two ids with one form are the same.
 use Rattle.std.proofs.Common.{◌≡◌, ℕ, ◌+◌, ◌-◌, ◌<◌, Bool, true, false, List, [], ◌∷◌, ◌++◌, inl, inr, refl, sym, ap, ◌∙◌, append_assoc, append-nil}
-use Rattle.std.proofs.lemmas.Bool.{cases_Bool, eqb-true, true≢false}
-use Rattle.std.specs.Prelude.{◌==◌, ◌&&◌, ◌*◌, nat_le, bytes_eq, if◌then◌else◌}
+use Rattle.std.{proofs.lemmas.Bool.{cases_Bool, eqb-true, true≢false}, specs.Prelude.{◌==◌, ◌&&◌, ◌*◌, nat_le, bytes_eq, if◌then◌else◌}}
 use Rattle.std.specs.{Cmp.Lexicographic.bytes_decides, List.AllByRecursion, List.fold, List.list_all}
 use Rattle.echo_charset.specs.Escaped.{escaped, escaped_byte}
-use Rattle.cmd_repair.specs.Ids.{is_text_byte}
-use Rattle.cmd_repair.proofs.IdWords.{both, every, every-each, small_byte}
+use Rattle.cmd_repair.{specs.Ids.is_text_byte, proofs.IdWords.{both, every, every-each, small_byte}}
 
 -- how far an escaped byte was read: 0 at its front, 1 behind a backslash, 2 behind `\x`, 16 and more behind a digit
 abbrev digit : ℕ → ℕ

@@ -53,5 +53,4 @@ pub record IsIdList (area bytes : List ℕ) (words : List (List ℕ)) : Type 0 w
 
 abbrev pub ReadsIds : List ℕ → List ℕ → Result (List (List ℕ)) Fault → Type 0
 ReadsIds area bytes (Ok words) = IsIdList area bytes words
-ReadsIds area bytes (Err fault) =
-    IsOutOfMemory fault ⊎ ((number : ℕ) × (wrong_line area 1 Start (file_lines bytes) ≡ Some number) × (fault ≡ ListLine number))
+ReadsIds area bytes (Err fault) = IsOutOfMemory fault ⊎ ((number : ℕ) × (wrong_line area 1 Start (file_lines bytes) ≡ Some number) × (fault ≡ ListLine number))

@@ -1,6 +1,5 @@
 -- The ids of messages, and their printed words.
-use Rattle.std.specs.Prelude.{◌≡◌, ℕ, ◌-◌, ◌==◌, ◌&&◌, not, nat_lt, Bool, true, List, length, slice_index}
-use Rattle.std.specs.List.{list_all}
+use Rattle.std.specs.{Prelude.{◌≡◌, ℕ, ◌-◌, ◌==◌, ◌&&◌, not, nat_lt, Bool, true, List, length, slice_index}, List.list_all}
 use Rattle.echo_addr.specs.Entries.{is_blank}
 use Rattle.echo_charset.specs.Escaped.{escaped}
 

@@ -64,8 +64,7 @@ IsStopped old new Device = Failed old new
 
 -- Why a packet is not sent, a bad stamp included.
 abbrev pub IsUnsent : Stamp → List ℕ → ℕ → ℕ → ℕ → ℕ → SendFault → Type 0
-IsUnsent stamp path before now old new fault =
-    IsUndone path before now old new fault ⊎ ((fault ≡ Messages (Scan BadStamp)) × (is_stamp stamp ≡ false))
+IsUnsent stamp path before now old new fault = IsUndone path before now old new fault ⊎ ((fault ≡ Messages (Scan BadStamp)) × (is_stamp stamp ≡ false))
 
 abbrev pub copies_at : LinkFile → List ℕ → Address → Option (List (List ℕ)) → Option Filed → List Message
 copies_at file area to held None = []

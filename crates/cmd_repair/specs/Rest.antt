@@ -1,6 +1,5 @@
 -- What a repair sends, in the terms of the model.
-use Rattle.std.specs.Prelude.{◌≡◌, ℕ, List, Option, Some}
-use Rattle.std.specs.Io.KnownBytes.{Appends}
+use Rattle.std.specs.{Prelude.{◌≡◌, ℕ, List, Option, Some}, Io.KnownBytes.Appends}
 use Rattle.base_file.specs.Base.{Base}
 use Rattle.echo_addr.specs.declared.address.Address.{Address}
 use Rattle.echo_filed.specs.Filed.{Filed}
@@ -9,8 +8,7 @@ use Rattle.echo_packet.specs.{Header.AreBytes, Packet.packet_bytes}
 use Rattle.echo_text.specs.Echo.{msgid_of}
 use Rattle.model_graph.specs.Walk.{Among}
 use Rattle.model_run.specs.Repair.{rest_packet}
-use Rattle.model_steps.specs.declared.packet.Packet.{Packet}
-use Rattle.model_steps.specs.declared.stamp.Stamp.{Stamp}
+use Rattle.model_steps.specs.declared.{packet.Packet.Packet, stamp.Stamp.Stamp}
 
 abbrev pub bytes_sent : Packet → List ℕ
 bytes_sent p = packet_bytes p.header p.messages

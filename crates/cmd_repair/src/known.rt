@@ -1,5 +1,4 @@
-ghost use Rattle.std.specs.Prelude.{◌≡◌, List, ℕ, bytes_eq, map};
-ghost use Rattle.std.specs.List.{list_any};
+ghost use Rattle.std.specs.{Prelude.{◌≡◌, List, ℕ, bytes_eq, map}, List.list_any};
 
 use std::marker::Model;
 

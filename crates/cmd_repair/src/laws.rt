@@ -5,9 +5,8 @@ ghost use Rattle.echo_addr.specs.declared.address.Address.{Address};
 ghost use Rattle.echo_links.specs.Links.{LinkFile};
 ghost use Rattle.echo_toss.specs.declared.counting.CountedPacket.{CountedPacket};
 ghost use Rattle.model_steps.specs.declared.stamp.Stamp.{Stamp};
-ghost use Rattle.cmd_repair.specs.{IdList.IsIdList, IdList.IsPrintedList, IdList.wrong_line, Ids.IsWordOfId, Words.is_id_word};
+ghost use Rattle.cmd_repair.specs.{IdList.{IsIdList, IsPrintedList, wrong_line}, Ids.IsWordOfId, Words.is_id_word, declared.reading.Stage.TheVariants.Start};
 ghost use Rattle.cmd_repair.specs.{Repair.SendsPacket, Rest.HaveByteIds, Rest.SendsRest};
-ghost use Rattle.cmd_repair.specs.declared.reading.Stage.TheVariants.{Start};
 
 /// A list has no wrong line exactly if its lines are those of an area and its ids, in any order and perhaps twice.
 pub fn right_lists_are_printed_ones()

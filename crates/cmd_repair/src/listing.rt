@@ -1,5 +1,4 @@
-ghost use Rattle.std.specs.Prelude.{◌≡◌, ◌++◌, OnErr, OnOk, IfErr, codes, length, map};
-ghost use Rattle.std.specs.List.{flat_map};
+ghost use Rattle.std.specs.{Prelude.{◌≡◌, ◌++◌, OnErr, OnOk, IfErr, codes, length, map}, List.flat_map};
 ghost use Rattle.base_file.specs.Base as model;
 ghost use Rattle.base_folder.specs.{Fetching.CannotRead, Source.AreLegible};
 ghost use Rattle.cmd_status.specs.{Devices.output_of, Ended.AnswersInPieces, Ended.Stops, Lines.PassesOn, Lines.WritesFront};

@@ -1,6 +1,5 @@
 -- The answer of `show`, from those of its parts.
-use Rattle.std.proofs.Common.{◌≡◌, ℕ, Bool, List, [], Option, Result, Ok, Err, sym, subst, ◌∙◌, inl, inr, arith}
-use Rattle.std.specs.Io.KnownBytes.{Appends}
+use Rattle.std.{proofs.Common.{◌≡◌, ℕ, Bool, List, [], Option, Result, Ok, Err, sym, subst, ◌∙◌, inl, inr, arith}, specs.Io.KnownBytes.Appends}
 use Rattle.cmd_status.specs.{declared.fault.Fault.Fault, declared.status.Status.Status, Devices.Output, Ended.CannotPrint, Ended.PassesAll, Lines.WritesFront}
 use Rattle.cmd_status.proofs.Lines.{begun_after, begun_kept, nothing_begun, sent_after}
 use Rattle.cmd_show.specs.{Showing.AllShown, Showing.IsCutShort, Showing.PacketAnswers, Showing.PacketPasses, Showing.SomeShown, Written.AddsLines, Written.BeginsLines, Written.WritesLines}

@@ -6,9 +6,8 @@ use Rattle.echo_addr.specs.declared.address.Address.{Address}
 use Rattle.echo_nodelist.specs.{declared.fault.NodeFault.NodeFault, declared.line.Line.Line, declared.stated.CrcLine.CrcLine, Back.address_at, CrcLine.crc_line_of, Nodelist.NodelistAnswered, Nodelist.NodelistOf}
 use Rattle.cmd_status.specs.{declared.fault.Fault.TheVariants.Nodelist, declared.status.Status.Status, declared.fault.Fault.Fault, Devices.Output, Ended.CannotPrint, Ended.PassesAll, Ended.IsOutOfMemory, Ended.Stops, Lines.PassesOn, Lines.WritesFront}
 use Rattle.cmd_status.proofs.Lines.{begun_after, begun_more, front_more, passed_more, sent_after}
-use Rattle.cmd_show.specs.{Nodelists.IsListed, Nodelists.NodelistAnswers, Nodelists.crc_status, Written.AddsLines, Written.BeginsMore}
+use Rattle.cmd_show.{specs.{Nodelists.{IsListed, NodelistAnswers, crc_status}, Written.{AddsLines, BeginsMore}}, proofs.Pushed.{added, begun_within}}
 use Rattle.cmd_print.specs.Listed.{Listed, RestListed, addressed_text, crc_text, listed_entries, line_at, total_line}
-use Rattle.cmd_show.proofs.Pushed.{added, begun_within}
 
 same_map : (xs : List ℕ) → map (λ x. x) xs ≡ xs
 same_map [] = refl

@@ -1,7 +1,6 @@
 -- The end of a command that reads messages one by one.
 use Rattle.std.proofs.Common.{◌≡◌, ℕ, ◌≤◌, List, Result, inl, inr, arith}
-use Rattle.base_folder.specs.Fetching.{CannotRead, IsUnread}
-use Rattle.base_folder.proofs.Fetchings.{never_read, read_since}
+use Rattle.base_folder.{specs.Fetching.{CannotRead, IsUnread}, proofs.Fetchings.{never_read, read_since}}
 use Rattle.cmd_status.specs.{declared.fault.Fault.Fault, Devices.Output, Ended.Answers, Ended.AnswersInPieces}
 use Rattle.cmd_show.specs.Fetching.{PrintsReading, StopsReading}
 

@@ -1,7 +1,6 @@
 -- The lines of `links`, from those of its parts.
 use Rattle.std.proofs.Common.{◌≡◌, ℕ, ◌+◌, ◌<◌, List, [], ◌∷◌, ◌++◌, length, map, sum, take, sym, ap, ◌∙◌, arith, Option, Some, inl, inr}
-use Rattle.std.proofs.lemmas.{List.take_more, List.Sums.sum-map, List.Sums.sum_by-append, Option.slice_get_cases}
-use Rattle.std.specs.Prelude.{option_map, slice_get, unwrap_or}
+use Rattle.std.{proofs.lemmas.{List.{take_more, Sums.{sum-map, sum_by-append}}, Option.slice_get_cases}, specs.Prelude.{option_map, slice_get, unwrap_or}}
 use Rattle.echo_addr.specs.declared.address.Address.{Address}
 use Rattle.echo_links.specs.Links.{Area, LinkFile, area_of, links_of}
 use Rattle.cmd_show.specs.LinksShown.{area_links}

@@ -2,8 +2,7 @@ use Rattle.std.specs.{Prelude.IsErr, Io.KnownBytes.Appends}
 use Rattle.std.proofs.Common.{◌≡◌, ℕ, ◌+◌, Bool, true, false, List, [], ◌∷◌, ◌++◌, length, Option, Some, None, Result, Ok, Err, refl, sym, ap, subst, ◌∙◌, inl, inr, arith}
 use Rattle.echo_packet.specs.{declared.header.Header.Header, Message.Message, Message.message_bytes, Answer.Answer, Answer.Describes, Answer.Found}
 use Rattle.echo_packet.proofs.Outcome.{only_one, outcome}
-use Rattle.echo_text.specs.{declared.fault.TextFault.TextFault, Refusal.text_refusal}
-use Rattle.echo_text.proofs.OneReading.{one_count, one_echo}
+use Rattle.echo_text.{specs.{declared.fault.TextFault.TextFault, Refusal.text_refusal}, proofs.OneReading.{one_count, one_echo}}
 use Rattle.cmd_status.specs.{Devices.Output, declared.fault.Fault.Fault, declared.fault.Fault.TheVariants.BadHex, declared.fault.Fault.TheVariants.Packet, declared.status.Status.Status, declared.status.Status.TheVariants.Good, Ended.IsOfInput, Ended.Stops, Limits.show_limits}
 use Rattle.hex.specs.{Hex.decode_of, declared.error.FromHexError.FromHexError}
 use Rattle.cmd_print.specs.{Shown.MessageShown, Shown.MessagesShown, Shown.Shown, Shown.message_lines, Shown.whole_text, Said.LinesFor}
@@ -106,5 +105,4 @@ answered full hex input old new (Err fault) (inr (bytes, stands, stops)) own = s
 
 pub one_answer : (full : Bool) (hex : Bool) (input : List ℕ) (old new other : Output) (r s : Result Status Fault)
     → ShowAnswers full hex input old new r → ShowAnswers full hex input old other s → IsOfInput old.failures new.failures r → IsOfInput old.failures other.failures s → r ≡ s
-one_answer full hex input old new other r s a b own of_input =
-    answered full hex input old new r a own ∙ sym (answered full hex input old other s b of_input)
+one_answer full hex input old new other r s a b own of_input = answered full hex input old new r a own ∙ sym (answered full hex input old other s b of_input)

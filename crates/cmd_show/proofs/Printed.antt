@@ -1,6 +1,5 @@
 use Rattle.std.proofs.Common.{◌≡◌, ℕ, ◌+◌, ◌^◌, ◌<◌, ◌⊎◌, inl, inr, Bool, List, [], ◌∷◌, ◌++◌, Option, Result, Ok, Err, OnOk, OnErr, length, refl, sym, ap, ◌∙◌, subst, arith, append_assoc, append-nil, add-zero}
-use Rattle.std.proofs.lemmas.List.{length-append}
-use Rattle.std.specs.Prelude.{IfErr}
+use Rattle.std.{proofs.lemmas.List.length-append, specs.Prelude.IfErr}
 use Rattle.disk_io.proofs.Devices.{Failed-never}
 use Rattle.echo_packet.specs.{declared.header.Header.Header, declared.reader.Stage.Stage, declared.limits.Limits.Limits, Message.Message, Message.message_bytes, Message.messages_bytes, Answer.Describes, declared.fault.PacketFault.PacketFault, Fault.FaultOf, Next.CountsFailures, Next.NextFault, Reader.FrontFault, Reader.IsDropped, Run.IsOfCall, Run.SoFar}
 use Rattle.echo_packet.specs.declared.fault.PacketFault.TheVariants as fault

@@ -1,7 +1,6 @@
 -- The faulty lines of a file, and its first fault.
 use Rattle.std.proofs.Common.{◌≡◌, ℕ, ◌+◌, Bool, true, false, cond, List, [], ◌∷◌, ◌++◌, refl, sym, ap, ◌∙◌, Option, Some, None, Result, Err, ◌⊎◌, append_assoc, append-nil, arith}
-use Rattle.std.proofs.lemmas.Bool.{cases_Bool, true≢false}
-use Rattle.std.specs.{Prelude.option_map, Prelude.slice_get, Option.option_or, List.list_any}
+use Rattle.std.{proofs.lemmas.Bool.{cases_Bool, true≢false}, specs.{Prelude.{option_map, slice_get}, Option.option_or, List.list_any}}
 use Rattle.echo_links.specs.{LinkLines.LinksOf, LinkLines.file_fault, LinkLines.file_lines, LinkLines.first_fault, LinkLines.is_system_line, LinkLines.line_fault, LinkLines.read_lines, declared.fault.LinkFault.LinkFault, Links.LinkFile}
 use Rattle.echo_links.specs.declared.fault.LinkFault.TheVariants as fault
 use Rattle.echo_links.proofs.LinkBytes.{no_lines_left}

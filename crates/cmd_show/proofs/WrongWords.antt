@@ -1,6 +1,5 @@
 -- The wrong word in a line, found word by word.
-use Rattle.std.proofs.Common.{◌≡◌, ℕ, ◌||◌, Bool, true, false, cond, List, [], ◌∷◌, map, sym, ap, ◌∙◌, Some, None, arith}
-use Rattle.std.proofs.lemmas.Bool.{cond-false, cond-true}
+use Rattle.std.proofs.{Common.{◌≡◌, ℕ, ◌||◌, Bool, true, false, cond, List, [], ◌∷◌, map, sym, ap, ◌∙◌, Some, None, arith}, lemmas.Bool.{cond-false, cond-true}}
 use Rattle.std.specs.{Prelude.is_err, List.list_any, Ordering.is_eq}
 use Rattle.echo_addr.specs.{declared.address.Address.Address, Address.address_in, Address.outcome}
 use Rattle.echo_links.specs.{Links.same_address, LinkLines.links_fault, LinkReading.IsWordOf, Found.HaveTheSame, Found.address_order}

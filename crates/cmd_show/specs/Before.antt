@@ -1,6 +1,5 @@
 -- The parts of the good lines before a line, and how the line is judged.
-use Rattle.std.specs.Prelude.{◌≡◌, ◌||◌, not, Bool, ℕ, List, [], ◌∷◌, map, if◌then◌else◌, Option, Some, None, MatchOption, bytes_eq, filter}
-use Rattle.std.specs.List.{list_any}
+use Rattle.std.specs.{Prelude.{◌≡◌, ◌||◌, not, Bool, ℕ, List, [], ◌∷◌, map, if◌then◌else◌, Option, Some, None, MatchOption, bytes_eq, filter}, List.list_any}
 use Rattle.echo_text.specs.Lines.{is_tag}
 use Rattle.echo_links.specs.LinkLines.{after_first_of, first_of, is_area_line, is_name_line, is_system_line, line_fault, links_fault, tag_in}
 use Rattle.echo_links.specs.{declared.fault.LinkFault.LinkFault, Links.upper}

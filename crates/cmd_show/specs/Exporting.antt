@@ -29,13 +29,11 @@ is_sought area first purged cursor i m = is_asked area first i m && is_exported 
 -- The printed text of the message of this number, if there is one.
 abbrev pub sought_text : Form → Option (List ℕ) → ℕ → Bool → ℕ → ℕ → Option Filed → List ℕ
 sought_text form area first purged cursor i None = []
-sought_text form area first purged cursor i (Some m) =
-    if is_sought area first purged cursor i m then message_text form i (state_of cursor i m) m else []
+sought_text form area first purged cursor i (Some m) = if is_sought area first purged cursor i m then message_text form i (state_of cursor i m) m else []
 
 abbrev pub sought_count : Form → Option (List ℕ) → ℕ → Bool → ℕ → ℕ → Option Filed → ℕ
 sought_count form area first purged cursor i None = 0
-sought_count form area first purged cursor i (Some m) =
-    if is_sought area first purged cursor i m then message_lost form i (state_of cursor i m) m else 0
+sought_count form area first purged cursor i (Some m) = if is_sought area first purged cursor i m then message_lost form i (state_of cursor i m) m else 0
 
 -- The printed text of the first `n` messages.
 abbrev pub sought_texts : Form → Option (List ℕ) → ℕ → Bool → ℕ → List Filed → ℕ → List ℕ
@@ -61,8 +59,7 @@ pub record IsBaseExported (form : Form) (area : Option (List ℕ)) (first : ℕ)
   pub exported : IsExported form area first purged base lines count
 
 abbrev pub ExportAnswers : Form → Option (List ℕ) → ℕ → Bool → List ℕ → Output → Output → Result ℕ Fault → Type 0
-ExportAnswers form area first purged file old new answer =
-    AnswersInPieces (IsBaseExported form area first purged file) (IsBaseFault (Some file)) old new answer
+ExportAnswers form area first purged file old new answer = AnswersInPieces (IsBaseExported form area first purged file) (IsBaseFault (Some file)) old new answer
 
 -- The line on standard error with the number of U+FFFD that were printed.
 abbrev pub lost_line : ℕ → List ℕ

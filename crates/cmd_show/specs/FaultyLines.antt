@@ -1,6 +1,5 @@
 -- All faulty lines of a link file, each with the word that is wrong in it.
-use Rattle.std.specs.Prelude.{ℕ, ◌+◌, Bool, true, false, List, [], ◌∷◌, map, if◌then◌else◌, Option, Some, None, is_err}
-use Rattle.std.specs.List.{list_any}
+use Rattle.std.specs.{Prelude.{ℕ, ◌+◌, Bool, true, false, List, [], ◌∷◌, map, if◌then◌else◌, Option, Some, None, is_err}, List.list_any}
 use Rattle.echo_addr.specs.{Address.address_in, Address.outcome, Entries.tokens}
 use Rattle.echo_links.specs.LinkLines.{after_first_of, file_fault, file_lines, first_of, is_control_byte, is_system_line, line_fault, links_in, name_in, words}
 use Rattle.echo_links.specs.{declared.fault.LinkFault.LinkFault, Links.same_address}
@@ -27,8 +26,7 @@ no_address (word ∷ more) = if is_err (outcome word) then word else no_address 
 
 abbrev pub link_again : List (List ℕ) → List (List ℕ) → List ℕ
 link_again before [] = []
-link_again before (word ∷ more) =
-    if list_any (same_address (address_in word)) (map address_in before) then word else link_again (word ∷ before) more
+link_again before (word ∷ more) = if list_any (same_address (address_in word)) (map address_in before) then word else link_again (word ∷ before) more
 
 abbrev pub wrong_address : List ℕ → List ℕ
 wrong_address line = if is_system_line line then not_one_address (after_first_of (words line)) else no_address (links_in line)

@@ -1,6 +1,5 @@
 -- The lines of `links` for link files.
-use Rattle.std.specs.Prelude.{ℕ, Bool, List, [], ◌++◌, codes, decimal, length, map, sum, if◌then◌else◌, Option, Some, None}
-use Rattle.std.specs.List.{flat_map}
+use Rattle.std.specs.{Prelude.{ℕ, Bool, List, [], ◌++◌, codes, decimal, length, map, sum, if◌then◌else◌, Option, Some, None}, List.flat_map}
 use Rattle.echo_addr.specs.Address.{address_text}
 use Rattle.echo_charset.specs.{Escaped.escaped_line, Words.printed_word}
 use Rattle.echo_links.specs.{declared.fault.LinkFault.LinkFault, Links.Area, Links.LinkFile, Links.links_of, LinkLines.file_fault, LinkLines.file_of}
@@ -20,8 +19,7 @@ good_line path file =
     ++ (codes ": " ++ (address_text file.system ++ (codes " " ++ (decimal (length file.areas) ++ (codes " areas " ++ (decimal (all_links file) ++ codes " links\n"))))))
 
 abbrev pub area_line : List ℕ → LinkFile → Area → List ℕ
-area_line path file area =
-    printed_word path ++ (codes ": area " ++ (area.tag ++ (codes " " ++ (decimal (area_links file area) ++ codes " links\n"))))
+area_line path file area = printed_word path ++ (codes ": area " ++ (area.tag ++ (codes " " ++ (decimal (area_links file area) ++ codes " links\n"))))
 
 abbrev pub areas_text : Bool → List ℕ → LinkFile → List ℕ
 areas_text areas path file = if areas then flat_map (area_line path file) file.areas else []

@@ -1,6 +1,5 @@
 //! `list --areas`: how many messages of each area a base has.
-ghost use Rattle.std.specs.Prelude.{◌≡◌, ◌<◌, ◌^◌, ◌+◌, ◌++◌, ℕ, List, IfErr, IfOk, OnOk, option_copied, slice_get, take, length};
-ghost use Rattle.std.specs.List.{flat_map};
+ghost use Rattle.std.specs.{Prelude.{◌≡◌, ◌<◌, ◌^◌, ◌+◌, ◌++◌, ℕ, List, IfErr, IfOk, OnOk, option_copied, slice_get, take, length}, List.flat_map};
 ghost use Rattle.base_file.specs.Base as model;
 ghost use Rattle.cmd_show.specs.AreasListed.{AreListed, Ascend, AreWithin, HaveCounts, ListAreasAnswers, area_line, counted_more, counts_of, counts_text};
 ghost use Rattle.base_folder.specs.Fetching.{CannotRead, IsUnread};

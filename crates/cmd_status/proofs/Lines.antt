@@ -56,8 +56,7 @@ begun_after a b c lines mid first begun =
     }
 
 pub sent_after : (a b c : Option (List ℕ)) (lines mid : List ℕ) → PassesOn lines mid a b → Appends b c mid → Appends a c lines
-sent_after a b c lines mid first out =
-    subst (Appends a c) (sym first.whole) (Appends-trans a b c first.went mid first.written out)
+sent_after a b c lines mid first out = subst (Appends a c) (sym first.whole) (Appends-trans a b c first.went mid first.written out)
 
 pub begun_kept : (a b c : Option (List ℕ)) (lines : List ℕ) → WritesFront lines a b → Appends b c [] → WritesFront lines a c
 begun_kept a b c lines begun none =

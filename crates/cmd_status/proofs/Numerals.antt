@@ -2,8 +2,7 @@
 use Rattle.std.proofs.Common.{◌≡◌, ◌≢◌, ◌<◌, ◌≤◌, ◌-◌, ◌^◌, ℕ, min, true, List, [], ◌∷◌, nat_lt, length, get_or, Result, Ok, Err, refl, sym, ap, subst, ◌∙◌, inl, inr, arith}
 use Rattle.std.proofs.{Math.Nat.min-eq_left, Math.Nat.min-eq_right, lemmas.Bool.and_parts, lemmas.Bool.cases_lt, lemmas.Bool.ltb-true, lemmas.Str.Parse.digits_value_short, lemmas.Str.Parse.parse_gives, lemmas.Str.Parse.without_leading_plus_none}
 use Rattle.std.specs.{Char.is_ascii_digit, Str.all_ascii_digits, Result.result_unwrap_or, Str.Parse.ParsesUnsigned, Str.Parse.digits_value, Str.Parse.without_leading_plus}
-use Rattle.echo_addr.specs.Digits.{is_number}
-use Rattle.echo_addr.proofs.Decimals.{own}
+use Rattle.echo_addr.{specs.Digits.is_number, proofs.Decimals.own}
 
 pub short_number : (ds : List ℕ) → is_number ds ≡ true → length ds ≤ 4 → digits_value 10 ds < 10000
 short_number ds is few = digits_value_short own ds 4 (and_parts (nat_lt 0 (length ds)) (all_ascii_digits ds) is).1 few

@@ -1,6 +1,5 @@
 -- The system that a link file and a base file make.
-use Rattle.std.proofs.Common.{◌≡◌, ℕ, List, length, take, Option, Some, None, Ok, refl, sym, ap, subst, ◌∙◌, arith}
-use Rattle.std.proofs.lemmas.List.{length-append, take_at}
+use Rattle.std.proofs.{Common.{◌≡◌, ℕ, List, length, take, Option, Some, None, Ok, refl, sym, ap, subst, ◌∙◌, arith}, lemmas.List.{length-append, take_at}}
 use Rattle.echo_filed.specs.Filed.{Filed}
 use Rattle.base_file.specs.{BaseFile.BaseOf, BaseFile.LoadOf, Loading.TakesBase}
 

@@ -1,6 +1,5 @@
 -- The end of a command: its answer before it reports a fault, and its status.
-use Rattle.std.specs.Prelude.{◌≡◌, ℕ, ◌⊎◌, false, List, codes, Result, Ok, Err}
-use Rattle.std.specs.Io.KnownBytes.{Appends}
+use Rattle.std.specs.{Prelude.{◌≡◌, ℕ, ◌⊎◌, false, List, codes, Result, Ok, Err}, Io.KnownBytes.Appends}
 use Rattle.disk_io.specs.Device.{Failed}
 use Rattle.echo_links.specs.declared.fault.LinkFault.TheVariants as link
 use Rattle.base_file.specs.declared.fault.BaseFault.TheVariants as base

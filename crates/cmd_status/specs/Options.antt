@@ -1,6 +1,5 @@
 -- Words of the command line other than paths and texts.
-use Rattle.std.specs.Prelude.{ℕ, ◌-◌, ◌^◌, ◌&&◌, ◌==◌, Bool, List, length, min, slice_index, slice_range}
-use Rattle.std.specs.{List.list_all, Str.Parse.digits_value}
+use Rattle.std.specs.{Prelude.{ℕ, ◌-◌, ◌^◌, ◌&&◌, ◌==◌, Bool, List, length, min, slice_index, slice_range}, List.list_all, Str.Parse.digits_value}
 use Rattle.echo_addr.specs.Digits.{is_number}
 use Rattle.model_steps.specs.declared.stamp.Stamp.{Stamp}
 use Rattle.echo_text.specs.Ids.{is_hex_digit}

@@ -1,7 +1,6 @@
 -- The exit statuses of the program, and the status of each fault.
 use Rattle.std.specs.Prelude.{ℕ}
-use Rattle.cmd_status.specs.declared.status.Status.TheVariants.{Good, Differs, Refused, Device, CommandLine}
-use Rattle.cmd_status.specs.declared.{status.Status.Status, fault.Fault.Fault}
+use Rattle.cmd_status.specs.declared.{status.Status.{TheVariants.{Good, Differs, Refused, Device, CommandLine}, Status}, fault.Fault.Fault}
 use Rattle.cmd_status.specs.declared.fault.Fault.TheVariants as fault
 use Rattle.echo_links.specs.declared.fault.LinkFault.{LinkFault}
 use Rattle.echo_links.specs.declared.fault.LinkFault.TheVariants as link

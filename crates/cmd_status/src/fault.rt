@@ -1,6 +1,5 @@
 ghost use Rattle.std.specs.Prelude.{◌≡◌};
-ghost use Rattle.cmd_status.specs.declared.fault.Fault.TheVariants.{Base, Link, Nodelist, OutOfMemory, Packet, Post, Scan};
-ghost use Rattle.cmd_status.specs.Status.{status_of};
+ghost use Rattle.cmd_status.specs.{declared.fault.Fault.TheVariants.{Base, Link, Nodelist, OutOfMemory, Packet, Post, Scan}, Status.status_of};
 
 use crate::shown::Shown;
 use crate::status::Status;

@@ -1,9 +1,7 @@
 -- Commands on a store that holds too much.
-use Rattle.std.proofs.Common.{List, ℕ, Option, Result, Ok, Err, sym, ◌∙◌, arith}
-use Rattle.std.specs.Prelude.{IsErrOf}
+use Rattle.std.{proofs.Common.{List, ℕ, Option, Result, Ok, Err, sym, ◌∙◌, arith}, specs.Prelude.IsErrOf}
 use Rattle.base_file.specs.Base.{Base}
-use Rattle.disk_io.specs.Disk.{Files, Honestly}
-use Rattle.disk_io.proofs.Moments.{then_run}
+use Rattle.disk_io.{specs.Disk.{Files, Honestly}, proofs.Moments.then_run}
 use Rattle.base_store.specs.Store.{CommitsNothing, GoesOn, IsSameStore, KeepsOthers, KeepsOrCommits, MayCommit, SameOtherFiles, StoreState}
 use Rattle.base_store.specs.declared.store_error.StoreError.{StoreError, TheVariants.TooMany}
 use Rattle.base_store.proofs.Runs.{commits_none, same_twice, others_twice as kept_twice}

@@ -1,9 +1,7 @@
 -- A command that changes a store and then commits, and the files that a crash leaves.
-use Rattle.std.proofs.Common.{◌≤◌, ℕ, ⊎_elim, Result, Ok, Err, refl, arith}
-use Rattle.std.specs.Prelude.{IfErr, OnOk}
+use Rattle.std.{proofs.Common.{◌≤◌, ℕ, ⊎_elim, Result, Ok, Err, refl, arith}, specs.Prelude.{IfErr, OnOk}}
 use Rattle.base_file.specs.Base.{Base}
-use Rattle.disk_io.specs.Disk.{Files, Honestly}
-use Rattle.disk_io.proofs.Moments.{then_nothing, then_run, weaker_run}
+use Rattle.disk_io.{specs.Disk.{Files, Honestly}, proofs.Moments.{then_nothing, then_run, weaker_run}}
 use Rattle.base_store.specs.{Store.Commits, Store.CommitsNothing, Store.GoesOn, Store.HasStoreCause, Store.KeepsOrCommits, Store.LooksOn, Store.MayCommit, Store.LeavesEither, Store.StoreState, declared.store_error.StoreError.StoreError}
 use Rattle.base_store.proofs.Runs.{commits_none, goes_on_twice, looks_commit, looks_go_on, same_twice, others_twice as kept_twice}
 use Rattle.base_store.proofs.Causes.{cause_after, no_cause}

@@ -8,8 +8,7 @@ use Rattle.cmd_status.specs.{declared.fault.Fault.TheVariants.OutOfMemory, Devic
 use Rattle.model_steps.specs.{declared.draft.Draft.Draft, declared.fault.PostFault.PostFault, declared.stamp.Stamp.Stamp, Posting.post_refusal, Posting.posted, SystemState.SystemState}
 use Rattle.model_steps.specs.declared.fault.PostFault.TheVariants as fault
 use Rattle.model_steps.proofs.FirstRefusals.{refusal_first}
-use Rattle.base_store.specs.Store.{HasStoreCause, LooksOn, StoreState, with_message}
-use Rattle.base_store.proofs.Runs.{looks_twice, no_look}
+use Rattle.base_store.{specs.Store.{HasStoreCause, LooksOn, StoreState, with_message}, proofs.Runs.{looks_twice, no_look}}
 use Rattle.echo_text.specs.Ids.{id_of}
 use Rattle.echo_toss.specs.{declared.step_error.PostStepError.PostStepError, PacketsIn.state_in, Stores.IsPostStop, Stores.LooksWhereRefused, Stores.post_answer}
 use Rattle.echo_toss.specs.declared.step_error.PostStepError.TheVariants as post

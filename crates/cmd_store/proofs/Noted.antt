@@ -1,21 +1,17 @@
 -- Notes on messages tossed in order.
 use Rattle.std.proofs.Common.{◌≡◌, ℕ, ◌+◌, List, [], ◌∷◌, ◌++◌, length, refl, sym, ap, ◌∙◌, arith, append_assoc, append-nil, length-append, Option}
-use Rattle.std.proofs.KnownBytes.{Consumes-nil}
-use Rattle.std.specs.Prelude.{option_to_list}
+use Rattle.std.{proofs.KnownBytes.Consumes-nil, specs.Prelude.option_to_list}
 use Rattle.echo_addr.specs.declared.address.Address.{Address}
 use Rattle.echo_packet.specs.{declared.limits.Limits.Limits, Fault.place_of, Message.Message, Message.message_bytes, Message.messages_bytes}
 use Rattle.echo_text.specs.Echo.{EchoOf, EchoText}
 use Rattle.echo_links.specs.Links.{LinkFile}
-use Rattle.echo_filed.specs.{Filed.Filed as FiledMessage, Written.echo_of}
-use Rattle.echo_filed.proofs.Texts.{says_accepted, says_one}
+use Rattle.echo_filed.{specs.{Filed.Filed as FiledMessage, Written.echo_of}, proofs.Texts.{says_accepted, says_one}}
 use Rattle.model_steps.specs.{declared.outcome.Outcome.Outcome, SystemState.SystemState, Tossing.toss_outcome, Tossing.tossed, Tossing.tossing}
-use Rattle.echo_toss.specs.{declared.tally.Tally.Tally, Messages.HasTaken, Messages.IsOpened, Tallies.tally_of}
-use Rattle.echo_toss.proofs.Stops.{some_tossed}
+use Rattle.echo_toss.{specs.{declared.tally.Tally.Tally, Messages.{HasTaken, IsOpened}, Tallies.tally_of}, proofs.Stops.some_tossed}
 use Rattle.cmd_store.specs.{Notes.area_said, Notes.note_of, Notes.notes_of, Notes.said_unless, Notes.text_said, NotedPacket.NotesSome, NotedPacket.NotesTaken}
 
 pub said_area : (text : List ℕ) (e : EchoText) (dropped : ℕ) → EchoOf text e dropped → area_said e ≡ text_said text
-said_area text e dropped h =
-    sym (ap (λ r. said_unless r (echo_of text)) (says_accepted text e dropped h) ∙ ap area_said (says_one text e dropped h))
+said_area text e dropped h = sym (ap (λ r. said_unless r (echo_of text)) (says_accepted text e dropped h) ∙ ap area_said (says_one text e dropped h))
 
 pub notes_of-push : (file : LinkFile) (base : List FiledMessage) (sender : Address) (number start : ℕ) (ms : List Message) (m : Message)
     → notes_of file base sender number start (ms ++ m ∷ [])

@@ -5,8 +5,7 @@ use Rattle.base_file.specs.Base.{Base}
 use Rattle.disk_io.specs.Disk.{Honestly}
 use Rattle.echo_links.specs.Links.{LinkFile}
 use Rattle.echo_packet.specs.declared.limits.Limits.{Limits}
-use Rattle.base_store.specs.Store.{CommitsNothing, GoesOn, StoreState}
-use Rattle.base_store.proofs.Runs.{looks_commit, looks_go_on, no_look}
+use Rattle.base_store.{specs.Store.{CommitsNothing, GoesOn, StoreState}, proofs.Runs.{looks_commit, looks_go_on, no_look}}
 use Rattle.echo_toss.specs.{declared.tally.Tally.Tally, PacketsIn.state_in, Tallies.all_counted, Tallies.tally_of}
 use Rattle.cmd_store.proofs.Noted.{HasNoted, none_noted}
 

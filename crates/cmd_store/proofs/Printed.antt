@@ -1,6 +1,5 @@
 -- Lines that were printed, as an answer.
-use Rattle.std.proofs.Common.{◌≡◌, ℕ, List, Result, subst, arith}
-use Rattle.std.specs.{Prelude.IfErr, Io.KnownBytes.Appends}
+use Rattle.std.{proofs.Common.{◌≡◌, ℕ, List, Result, subst, arith}, specs.{Prelude.IfErr, Io.KnownBytes.Appends}}
 use Rattle.cmd_status.specs.{declared.fault.Fault.Fault, Devices.Output, Ended.IsDone, Ended.PassesAll}
 use Rattle.cmd_store.specs.{declared.command_error.CommandError.CommandError, Answered.AnswersAndCommits, Answered.AreLines, Answered.PrintsAll, Stops.IsOfStore}
 

@@ -1,14 +1,10 @@
-use Rattle.std.proofs.Common.{◌≡◌, ◌⊎◌, ◌++◌, ℕ, List, [], inl, inr, ⊎_elim, Result, refl, ap, ◌∙◌, arith}
-use Rattle.std.specs.Prelude.{count_by, not, take}
+use Rattle.std.{proofs.Common.{◌≡◌, ◌⊎◌, ◌++◌, ℕ, List, [], inl, inr, ⊎_elim, Result, refl, ap, ◌∙◌, arith}, specs.Prelude.{count_by, not, take}}
 use Rattle.base_file.specs.Base.{Base}
-use Rattle.disk_io.specs.{Disk.Files, Disk.Honestly, Runs.LeavesOnly}
-use Rattle.disk_io.proofs.Moments.{then_run, weaker_run}
+use Rattle.disk_io.{specs.{Disk.{Files, Honestly}, Runs.LeavesOnly}, proofs.Moments.{then_run, weaker_run}}
 use Rattle.echo_filed.specs.Stubs.{is_stub}
-use Rattle.cmd_status.proofs.Lines.{alone}
-use Rattle.cmd_status.specs.Devices.{Output}
+use Rattle.cmd_status.{proofs.Lines.alone, specs.Devices.Output}
 use Rattle.model_steps.specs.Purging.{changed}
-use Rattle.base_store.specs.Store.{KeepsOrCommits, MayCommit, LeavesEither, StoreState, purged}
-use Rattle.base_store.proofs.Runs.{same_twice, others_twice as kept_twice}
+use Rattle.base_store.{specs.Store.{KeepsOrCommits, MayCommit, LeavesEither, StoreState, purged}, proofs.Runs.{same_twice, others_twice as kept_twice}}
 use Rattle.cmd_store.specs.{Lines.purged_line, declared.command_error.CommandError.CommandError, Answered.MayMake, Answered.PrintsAll, Answered.RefusesNone, Answered.RepresentsMade, Purged.HoldsOrPurges, Purged.IsPurgedAt, Purged.PurgesOn}
 use Rattle.cmd_store.proofs.Printed.{answered}
 

@@ -1,8 +1,6 @@
-use Rattle.std.proofs.Common.{◌≡◌, ℕ, List, inl, ⊎_elim, Option, Some, None, Result, Ok, Err, refl, arith}
-use Rattle.std.specs.Prelude.{IfErr, slice_get}
+use Rattle.std.{proofs.Common.{◌≡◌, ℕ, List, inl, ⊎_elim, Option, Some, None, Result, Ok, Err, refl, arith}, specs.Prelude.{IfErr, slice_get}}
 use Rattle.base_file.specs.Base.{Base}
-use Rattle.disk_io.specs.Disk.{Files, Honestly}
-use Rattle.disk_io.proofs.Moments.{then_run, weaker_run}
+use Rattle.disk_io.{specs.Disk.{Files, Honestly}, proofs.Moments.{then_run, weaker_run}}
 use Rattle.echo_filed.specs.Filed.{Filed}
 use Rattle.echo_links.specs.Links.{LinkFile}
 use Rattle.cmd_status.specs.Devices.{Output}

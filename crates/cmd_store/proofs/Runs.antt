@@ -1,6 +1,5 @@
 -- A run of `toss` on a store, from its packets to its end.
-use Rattle.std.proofs.Common.{◌≡◌, ℕ, Bool, List, [], Option, Result, Ok, Err, subst}
-use Rattle.std.specs.Prelude.{OnOk}
+use Rattle.std.{proofs.Common.{◌≡◌, ℕ, Bool, List, [], Option, Result, Ok, Err, subst}, specs.Prelude.OnOk}
 use Rattle.base_file.specs.Base.{Base}
 use Rattle.echo_links.specs.Links.{LinkFile}
 use Rattle.echo_packet.specs.declared.limits.Limits.{Limits}

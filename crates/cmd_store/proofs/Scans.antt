@@ -1,5 +1,4 @@
-use Rattle.std.proofs.Common.{◌≡◌, ◌++◌, ℕ, true, List, [], ◌∷◌, map, Result, refl, ap, arith}
-use Rattle.std.specs.List.{flat_map}
+use Rattle.std.{proofs.Common.{◌≡◌, ◌++◌, ℕ, true, List, [], ◌∷◌, map, Result, refl, ap, arith}, specs.List.flat_map}
 use Rattle.cmd_status.specs.Devices.{Output}
 use Rattle.model_steps.specs.{declared.packet.Packet.Packet, declared.stamp.Stamp.Stamp, Scanning.scanned, Stamps.is_stamp, SystemState.SystemState}
 use Rattle.echo_toss.specs.{declared.counting.CountedPacket.CountedPacket, Counts.counted_of}

@@ -1,8 +1,6 @@
 -- The line that names the charset of a message (FTS-5003).
-use Rattle.std.specs.Prelude.{ℕ, nat_le, Bool, List, [], ◌∷◌, ◌++◌, codes, if◌then◌else◌}
-use Rattle.std.specs.List.{list_any}
-use Rattle.echo_charset.specs.declared.charset.Charset.TheVariants.{Ascii, Cp437, Cp850, Cp866, Cp1251, Koi8R, Latin1, Utf8}
-use Rattle.echo_charset.specs.{declared.charset.Charset.Charset, Charset.charset_name}
+use Rattle.std.specs.{Prelude.{ℕ, nat_le, Bool, List, [], ◌∷◌, ◌++◌, codes, if◌then◌else◌}, List.list_any}
+use Rattle.echo_charset.specs.{declared.charset.Charset.{TheVariants.{Ascii, Cp437, Cp850, Cp866, Cp1251, Koi8R, Latin1, Utf8}, Charset}, Charset.charset_name}
 
 -- The level of a charset, as a digit: 1 of seven bits, 2 of eight, 4 of UTF-8.
 abbrev pub level : Charset → ℕ

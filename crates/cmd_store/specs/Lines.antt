@@ -1,6 +1,5 @@
 -- The lines in which `post`, `scan`, `purge` and `toss` report their work.
-use Rattle.std.specs.Prelude.{ℕ, ◌+◌, ◌≤◌, List, ◌++◌, Vec, codes, decimal, vec_capacity, vec_len}
-use Rattle.std.specs.declared.alloc.Global.{Global}
+use Rattle.std.specs.{Prelude.{ℕ, ◌+◌, ◌≤◌, List, ◌++◌, Vec, codes, decimal, vec_capacity, vec_len}, declared.alloc.Global.Global}
 use Rattle.echo_addr.specs.{declared.address.Address.Address, Address.address_text}
 use Rattle.echo_links.specs.Links.{upper}
 use Rattle.echo_packet.specs.declared.header.Header.{Header}

@@ -13,8 +13,7 @@ packet_name to before =
 
 -- `zone.net.node.rI.pkt`, for a packet made again from messages with numbers from I on.
 abbrev pub resent_name : Address → ℕ → List ℕ
-resent_name to first =
-    decimal to.zone ++ (codes "." ++ (decimal to.net ++ (codes "." ++ (decimal to.node ++ (codes ".r" ++ (decimal first ++ codes ".pkt"))))))
+resent_name to first = decimal to.zone ++ (codes "." ++ (decimal to.net ++ (codes "." ++ (decimal to.node ++ (codes ".r" ++ (decimal first ++ codes ".pkt"))))))
 
 -- The name with `-K` for a number K of other than 1: `zone.net.node.rI-K.pkt`.
 abbrev pub repair_name : Address → ℕ → ℕ → List ℕ

@@ -1,6 +1,5 @@
 -- The output of `scan` for the base in a store, and its packets.
-use Rattle.std.specs.Prelude.{◌≡◌, true, false, ℕ, List, map, Result, Ok, Err}
-use Rattle.std.specs.List.{flat_map}
+use Rattle.std.specs.{Prelude.{◌≡◌, true, false, ℕ, List, map, Result, Ok, Err}, List.flat_map}
 use Rattle.model_steps.specs.{PacketFiles.PacketFile, declared.fault.ScanFault.TheVariants.BadStamp, declared.stamp.Stamp.Stamp, Scanning.scanned, Stamps.is_stamp, SystemState.SystemState}
 use Rattle.cmd_status.specs.{declared.fault.Fault.Fault, declared.fault.Fault.TheVariants.Scan, Devices.Output}
 use Rattle.cmd_store.specs.{PacketLines.file_sent, PacketLines.line_sent, declared.command_error.CommandError.CommandError, Answered.AnswersOn}

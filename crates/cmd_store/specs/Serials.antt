@@ -1,6 +1,5 @@
 -- A posting that needs a serial.
-use Rattle.std.specs.Prelude.{◌≡◌, ℕ, ◌⊎◌, ◌+◌, ◌-◌, ◌%◌, ◌^◌, ◌<◌, Bool, true, false, List}
-use Rattle.std.specs.List.{list_any}
+use Rattle.std.specs.{Prelude.{◌≡◌, ℕ, ◌⊎◌, ◌+◌, ◌-◌, ◌%◌, ◌^◌, ◌<◌, Bool, true, false, List}, List.list_any}
 use Rattle.echo_text.specs.Ids.{id_of}
 use Rattle.echo_filed.specs.Filed.{Filed, has_id}
 use Rattle.echo_links.specs.Links.{LinkFile}

@@ -1,6 +1,5 @@
 -- The effect of `toss` on its packet files, and its output.
-use Rattle.std.specs.Prelude.{◌≡◌, ◌⊎◌, List, [], ◌∷◌, Option, Some, None, Ok, Err}
-use Rattle.std.specs.Io.KnownBytes.{Appends}
+use Rattle.std.specs.{Prelude.{◌≡◌, ◌⊎◌, List, [], ◌∷◌, Option, Some, None, Ok, Err}, Io.KnownBytes.Appends}
 use Rattle.disk_io.specs.Device.{Failed}
 use Rattle.echo_packet.specs.declared.limits.Limits.{Limits}
 use Rattle.cmd_status.specs.{Devices.Device, Devices.Output, declared.fault.Fault.Fault, Ended.PassesAll, Lines.WritesFront}

@@ -1,6 +1,5 @@
 -- The effect of `toss` on its packet files, its output, and the base that it makes of the one in a store.
-use Rattle.std.specs.Prelude.{◌≡◌, ◌⊎◌, ◌++◌, ℕ, Bool, List, Option, Some, None, OnOk, Result, Ok, Err}
-use Rattle.std.specs.Io.KnownBytes.{Appends}
+use Rattle.std.specs.{Prelude.{◌≡◌, ◌⊎◌, ◌++◌, ℕ, Bool, List, Option, Some, None, OnOk, Result, Ok, Err}, Io.KnownBytes.Appends}
 use Rattle.base_file.specs.Base.{Base}
 use Rattle.echo_links.specs.Links.{LinkFile}
 use Rattle.echo_packet.specs.declared.limits.Limits.{Limits}
@@ -29,14 +28,12 @@ AreOut run (Some fault) old new = IsRunPrinted run old new
 -- store that failed in the run counts as out of memory, and no line is printed. It may also fail after the lines.
 abbrev pub EndsOn : TossRun → Option Fault → Output → Output → Result (Option Fault) CommandError → Type 0
 EndsOn run stopped old new (Ok fault) = (fault ≡ stopped) × AreOut run stopped old new
-EndsOn run stopped old new (Err (Met fault)) =
-    (stopped ≡ None) × CannotPrint old.failures new.failures fault × WritesFront run.lines old.contents new.contents
+EndsOn run stopped old new (Err (Met fault)) = (stopped ≡ None) × CannotPrint old.failures new.failures fault × WritesFront run.lines old.contents new.contents
 EndsOn run stopped old new (Err (Store cause)) = ((stopped ≡ Some TossMemory) × (new ≡ old)) ⊎ AreOut run stopped old new
 
 abbrev pub PrintsRun : TossRun → Option Fault → Output → Output → Result (Unit {0}) Fault → Type 0
 PrintsRun run stopped old new (Ok done) = AreOut run stopped old new
-PrintsRun run stopped old new (Err fault) =
-    (stopped ≡ None) × CannotPrint old.failures new.failures fault × WritesFront run.lines old.contents new.contents
+PrintsRun run stopped old new (Err fault) = (stopped ≡ None) × CannotPrint old.failures new.failures fault × WritesFront run.lines old.contents new.contents
 
 -- The fault that stopped a run, in terms of the steps of a system. A failed store counts as out of memory.
 abbrev pub stopped_in : Result (Option Fault) StoreError → Option Fault

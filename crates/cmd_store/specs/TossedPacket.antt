@@ -1,8 +1,7 @@
 -- The effect of `toss` on one packet.
 use Rattle.std.specs.Prelude.{◌≡◌, ℕ, ◌⊎◌, Bool, true, false, List, ◌++◌, Option, Some, None, Result, Ok, Err}
 use Rattle.echo_packet.specs.declared.limits.Limits.{Limits}
-use Rattle.cmd_status.specs.{Devices.Device, declared.fault.Fault.Fault}
-use Rattle.cmd_status.specs.declared.fault.Fault.TheVariants.{NotForUs, OutOfMemory, Packet, TossMemory}
+use Rattle.cmd_status.specs.{Devices.Device, declared.fault.Fault.{Fault, TheVariants.{NotForUs, OutOfMemory, Packet, TossMemory}}}
 use Rattle.model_steps.specs.SystemState.{SystemState}
 use Rattle.echo_toss.specs.{declared.fault.TossCause.TossCause, declared.fault.TossFault.TossFault, declared.tally.Tally.Tally, PacketSteps.CountsToss, PacketSteps.PacketStep}
 use Rattle.echo_toss.specs.declared.fault.TossCause.TheVariants as stop
@@ -35,12 +34,10 @@ pub record HasTossedPacket (old : TossRun) (reader left : Device) (stopped : Opt
 
 -- Memory ran out for the line of a packet. The call read no byte of the packet, and the run is unchanged.
 abbrev pub HasNoLine : TossRun → Device → Device → Option Fault → TossRun → Type 0
-HasNoLine old reader left stopped new =
-    (stopped ≡ Some OutOfMemory) × (new ≡ old) × (left.contents ≡ reader.contents) × (left.failures ≡ reader.failures)
+HasNoLine old reader left stopped new = (stopped ≡ Some OutOfMemory) × (new ≡ old) × (left.contents ≡ reader.contents) × (left.failures ≡ reader.failures)
 
 abbrev pub TossesPacket : TossRun → Device → Device → Option Fault → TossRun → Type 0
-TossesPacket old reader left stopped new =
-    HasNoLine old reader left stopped new ⊎ HasTossedPacket old reader left stopped new
+TossesPacket old reader left stopped new = HasNoLine old reader left stopped new ⊎ HasTossedPacket old reader left stopped new
 
 -- The packet at the front of a reader's bytes is tossed. The notes on its messages that were not filed come before its line.
 pub record HasNotedPacket (old : TossRun) (reader left : Device) (stopped : Option Fault) (new : TossRun) : Type 0 where
@@ -53,8 +50,7 @@ pub record HasNotedPacket (old : TossRun) (reader left : Device) (stopped : Opti
   pub line : ReportsPacket noted new.lines answer stopped
 
 abbrev pub NotesPacketAt : TossRun → Device → Device → Option Fault → TossRun → Type 0
-NotesPacketAt old reader left stopped new =
-    HasNoLine old reader left stopped new ⊎ HasNotedPacket old reader left stopped new
+NotesPacketAt old reader left stopped new = HasNoLine old reader left stopped new ⊎ HasNotedPacket old reader left stopped new
 
 -- The result for a packet, with notes on its messages or without.
 abbrev pub TossesPacketBy : Bool → TossRun → Device → Device → Option Fault → TossRun → Type 0

@@ -1,6 +1,5 @@
 -- The text of a mail, in a charset.
-use Rattle.std.specs.Prelude.{ℕ, ◌≡◌, ◌⊎◌, List, Option, Some, None, Result, Ok, Err}
-use Rattle.std.specs.Option.{option_map, option_or}
+use Rattle.std.specs.{Prelude.{ℕ, ◌≡◌, ◌⊎◌, List, Option, Some, None, Result, Ok, Err}, Option.{option_map, option_or}}
 use Rattle.echo_charset.specs.{declared.charset.Charset.Charset, Charset.decoded_text, Encoding.Lacks}
 use Rattle.echo_mail.specs.{Encoded.decoded_words, Mailbox.person_name}
 use Rattle.cmd_store.specs.declared.fault.LetterFault.{LetterFault, TheVariants.Memory, TheVariants.NotInCharset}

@@ -1,8 +1,6 @@
 -- What is left of link files.
 use Rattle.std.proofs.Common.{◌≡◌, ℕ, zero, suc, ◌+◌, ◌<◌, ◌==◌, Bool, true, false, ◌||◌, List, [], ◌∷◌, length, take, get_or, Some, refl, sym, ap, ◌∙◌, arith, inl, inr}
-use Rattle.std.proofs.lemmas.{Bool.ne_eqb, List.Folds.list_any_more, Option.slice_get_cases}
-use Rattle.std.specs.Prelude.{slice_get}
-use Rattle.std.specs.List.{list_any}
+use Rattle.std.{proofs.lemmas.{Bool.ne_eqb, List.Folds.list_any_more, Option.slice_get_cases}, specs.{Prelude.slice_get, List.list_any}}
 use Rattle.echo_addr.specs.declared.address.Address.{Address}
 use Rattle.echo_links.specs.Links.{LinkFile}
 use Rattle.cmd_suppose.specs.Leaving.{AreLeft, texts_left}

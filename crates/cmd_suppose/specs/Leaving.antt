@@ -1,6 +1,5 @@
 -- Link files as if some systems had none and no file listed them.
-use Rattle.std.specs.Prelude.{◌≡◌, ◌&&◌, ◌||◌, ℕ, Bool, true, if◌then◌else◌, List, [], ◌∷◌, ◌++◌, Option, filter, find, not}
-use Rattle.std.specs.List.{flat_map, list_any}
+use Rattle.std.specs.{Prelude.{◌≡◌, ◌&&◌, ◌||◌, ℕ, Bool, true, if◌then◌else◌, List, [], ◌∷◌, ◌++◌, Option, filter, find, not}, List.{flat_map, list_any}}
 use Rattle.echo_addr.specs.declared.address.Address.{Address}
 use Rattle.echo_links.specs.Links.{Area, LinkFile, has_area, is_link, links_of, same_address}
 use Rattle.echo_net.specs.Drawn.{has_address}
@@ -17,8 +16,7 @@ area_left out file area = area_line area.tag (filter (stays out) (links_of file 
 
 -- The text of a file that lists none of the left out systems. A left out system has no file.
 abbrev pub text_left : List Address → LinkFile → List (List ℕ)
-text_left out file =
-    if has_address out file.system then [] else (system_line file.system ++ flat_map (area_left out file) file.areas) ∷ []
+text_left out file = if has_address out file.system then [] else (system_line file.system ++ flat_map (area_left out file) file.areas) ∷ []
 
 -- The texts of the files that are left, in order.
 abbrev pub texts_left : List Address → List LinkFile → List (List ℕ)

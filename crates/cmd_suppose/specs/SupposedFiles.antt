@@ -4,8 +4,7 @@ use Rattle.std.specs.List.{AllByRecursion, AllZip, flat_map, list_any, Sorted.Is
 use Rattle.echo_addr.specs.{declared.address.Address.Address, Address.address_text}
 use Rattle.echo_links.specs.{Found.address_order, Links.Area, Links.LinkFile, Links.has_area}
 use Rattle.model_run.specs.Tidy.{lists}
-use Rattle.echo_net.specs.Listings.{is_listed}
-use Rattle.echo_net.specs.{Faults.IsCarried, Nets.systems}
+use Rattle.echo_net.specs.{Listings.is_listed, Faults.IsCarried, Nets.systems}
 use Rattle.cmd_status.specs.Inputs.{AreLinkFiles}
 use Rattle.cmd_suppose.specs.Assuming.{link_word}
 
@@ -85,8 +84,7 @@ pub record ReadsMore (texts : List (List ℕ)) (old new : List LinkFile) : Type 
 
 -- The link files of the supposed systems are read after others.
 abbrev pub ReadsSupposed : Bool → List LinkFile → List (List ℕ) → List Address → List LinkFile → Type 0
-ReadsSupposed listed files tags assumed whole =
-    (texts : List (List ℕ)) × AllZip (IsSupposedFile listed files tags) assumed texts × ReadsMore texts files whole
+ReadsSupposed listed files tags assumed whole = (texts : List (List ℕ)) × AllZip (IsSupposedFile listed files tags) assumed texts × ReadsMore texts files whole
 
 -- The link files of the supposed systems of this area join others.
 pub record SupposesIn (files : List LinkFile) (tag : List ℕ) (named : List Address) (missing : Bool) (out : List Address) (old new : List (List ℕ)) (assumed unseen : List Address) : Type 0 where

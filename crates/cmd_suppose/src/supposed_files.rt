@@ -1,6 +1,5 @@
 //! The link files of systems that sent none, for several areas at once.
-ghost use Rattle.std.specs.Prelude.{◌≡◌, ◌++◌, ◌∷◌, [], ◌⊎◌, ℕ, List, IfErr, IfOk, OnOk, filter};
-ghost use Rattle.std.specs.List.{AllZip};
+ghost use Rattle.std.specs.{Prelude.{◌≡◌, ◌++◌, ◌∷◌, [], ◌⊎◌, ℕ, List, IfErr, IfOk, OnOk, filter}, List.AllZip};
 ghost use Rattle.echo_links.specs.Links.{LinkFile, upper};
 ghost use Rattle.echo_net.specs.Listings.{IsListing, is_listed};
 ghost use Rattle.cmd_status.specs.{Ended.IsOutOfMemory, Inputs.IsLinkFault};

@@ -1,7 +1,6 @@
 -- Copies of one message are counted, packet by packet and message by message.
 use Rattle.std.proofs.Common.{◌≡◌, ◌∙◌, inl, inr, refl, sym, subst, ap, ℕ, zero, suc, ◌+◌, ◌<◌, arith, Bool, true, false, cond, List, [], ◌∷◌, length, get_or, map, take, Option, Some, None, Ok}
-use Rattle.std.proofs.lemmas.List.{take_all}
-use Rattle.std.specs.Prelude.{◌&&◌, bytes_eq, filter, if◌then◌else◌, is_none, option_map, unwrap_or}
+use Rattle.std.{proofs.lemmas.List.take_all, specs.Prelude.{◌&&◌, bytes_eq, filter, if◌then◌else◌, is_none, option_map, unwrap_or}}
 use Rattle.echo_addr.specs.declared.address.Address.{Address}
 use Rattle.echo_packet.specs.{Answer.Answer, Answer.AnswersAsDescribed, Answer.Describes, Answer.Found, Message.Message, Packet.PacketOf}
 use Rattle.echo_text.specs.{Echo.msgid_of, Refusal.text_refusal}
@@ -34,8 +33,7 @@ is_one sender key q = is_none (text_refusal q.text) && same_key (key_of (receive
 abbrev pub total : Address → Key → List Message → ℕ
 total sender key ms = count key (map (received sender) (filter (λ q. is_none (text_refusal q.text)) ms))
 
-total-cons : (sender : Address) (key : Key) (q : Message) (ms : List Message) →
-    total sender key (q ∷ ms) ≡ cond (is_one sender key q) 1 0 + total sender key ms
+total-cons : (sender : Address) (key : Key) (q : Message) (ms : List Message) → total sender key (q ∷ ms) ≡ cond (is_one sender key q) 1 0 + total sender key ms
 total-cons sender key q ms = grind arith
 
 total-step : (sender : Address) (key : Key) (i : ℕ) (q : Message) (ms : List Message) → nth i ms ≡ Some q →

@@ -3,11 +3,9 @@ use Rattle.std.proofs.Common.{◌≡◌, ◌∙◌, ◌⊎◌, inl, inr, refl, s
 use Rattle.echo_addr.specs.declared.address.Address.{Address}
 use Rattle.model_graph.specs.Walk.{Among}
 use Rattle.echo_filed.specs.{declared.key.Key.Key, declared.key.Key.TheVariants.ById, Filed.Filed, Filed.key_of, Stubs.stub_of, Stubs.stub_with}
-use Rattle.model_run.specs.{Run.Run, Run.System, Run.nth, Orderly.IsPosting, Orderly.count, Orderly.sent_count, Harms.Harm}
-use Rattle.cmd_why.specs.declared.shown.Harm.{Harm as Reported, TheVariants.NeverGets, TheVariants.NeverSettles, TheVariants.SentAgain, TheVariants.SentOwn}
+use Rattle.model_run.{specs.{Run.{Run, System, nth}, Orderly.{IsPosting, count, sent_count}, Harms.Harm}, proofs.HarmLists.nth-below as nth-there}
+use Rattle.cmd_why.{specs.declared.shown.Harm.{Harm as Reported, TheVariants.{NeverGets, NeverSettles, SentAgain, SentOwn}}, proofs.Judged.{in-nth, nth-in}}
 use Rattle.cmd_why.specs.Found.{BreaksIt, HasHarm, HasPosted}
-use Rattle.cmd_why.proofs.Judged.{in-nth, nth-in}
-use Rattle.model_run.proofs.HarmLists.{nth-below as nth-there}
 
 stub-sender : (m : Filed) (o : Option (List ℕ)) → (stub_with m o).sender ≡ m.sender
 stub-sender m None = refl

@@ -1,19 +1,15 @@
 -- The harm that a world shows is the harm of its run.
 use Rattle.std.proofs.Common.{◌≡◌, ◌≢◌, ◌∙◌, ◌⊎◌, inl, inr, refl, sym, subst, ap, ℕ, zero, suc, ◌+◌, ◌<◌, ◌≤◌, arith, Bool, true, false, cond, List, [], ◌∷◌, length, Option, Some, None}
-use Rattle.std.proofs.lemmas.List.Sums.{sum_by-cons}
-use Rattle.std.specs.{Prelude.◌&&◌, Prelude.bytes_eq, Prelude.option_map, Prelude.slice_get, Prelude.unwrap_or, Cmp.Lexicographic.bytes_decides}
+use Rattle.std.{proofs.lemmas.List.Sums.sum_by-cons, specs.{Prelude.{◌&&◌, bytes_eq, option_map, slice_get, unwrap_or}, Cmp.Lexicographic.bytes_decides}}
 use Rattle.echo_addr.specs.declared.address.Address.{Address}
 use Rattle.model_graph.specs.Walk.{Among}
 use Rattle.echo_text.specs.Echo.{msgid_of}
-use Rattle.echo_links.specs.Links.{same_address}
-use Rattle.echo_links.proofs.Addresses.{same_address_decides}
-use Rattle.echo_filed.specs.{declared.key.Key.TheVariants.ById, Filed.Filed, Filed.key_of}
-use Rattle.echo_filed.proofs.Keys.{same_key_decides}
+use Rattle.echo_links.{specs.Links.same_address, proofs.Addresses.same_address_decides}
+use Rattle.echo_filed.{specs.{declared.key.Key.TheVariants.ById, Filed.{Filed, key_of}}, proofs.Keys.same_key_decides}
 use Rattle.model_steps.specs.declared.packet.Packet.{Packet}
 use Rattle.model_run.specs.{Orderly.IsPosting, Orderly.Settled, Orderly.copies, Orderly.count, Orderly.sent_count, Run.Run, Run.System, Run.destination, Run.nth, World.area_count, World.filed_at}
 use Rattle.model_replay.specs.Worlds.{message_at}
-use Rattle.cmd_why.specs.Found.{CarriesAt, GoesToNobody, HasPosted, IsCarrierAt, IsNeverGot, IsSentAgain, IsSentOwn, PostedAt}
-use Rattle.cmd_why.proofs.Counting.{has_key}
+use Rattle.cmd_why.{specs.Found.{CarriesAt, GoesToNobody, HasPosted, IsCarrierAt, IsNeverGot, IsSentAgain, IsSentOwn, PostedAt}, proofs.Counting.has_key}
 use Rattle.model_run.proofs.Lists.{and-parts as and-both}
 
 pub is_posted : (m : Filed) (tag id of : List ℕ) (found : Option (List ℕ)) → m.sender ≡ None → of ≡ m.echo.tag → found ≡ msgid_of m.echo.kept →
@@ -100,8 +96,7 @@ pub again-at : (run : Run) (i : ℕ) (tag id : List ℕ) (a : Address) (times : 
     sent_count a (ById tag id) run.packets ≡ times → 2 ≤ times → IsSentAgain run tag id a times
 again-at run i tag id a times carrier sent again = record { carrier = carrier-there run i tag a carrier; sent = sent; again = again }
 
-pub own-at : (run : Run) (i : ℕ) (tag id : List ℕ) (a : Address) → PostedAt run i tag id a → 1 ≤ sent_count a (ById tag id) run.packets →
-    IsSentOwn run tag id a
+pub own-at : (run : Run) (i : ℕ) (tag id : List ℕ) (a : Address) → PostedAt run i tag id a → 1 ≤ sent_count a (ById tag id) run.packets → IsSentOwn run tag id a
 own-at run i tag id a posted sent = record { poster = poster-there run i tag id a posted; address = posted.carrier.address; sent = sent }
 
 pub lacking-at : (run : Run) (i : ℕ) (tag id : List ℕ) (a p : Address) (poster : ℕ) → Settled run tag → PostedAt run poster tag id p → CarriesAt run i tag a →
@@ -135,8 +130,7 @@ none-more run n next to e before here j less s at same =
     or_at (suc j) zero h = absurd (omega arith)
     or_at (suc j) (suc n) h = elim (or_at j n (omega arith)) [ inl l ↦ inl (omega arith) | inr e ↦ inr (ap suc e) ]
 
-pub none-all : (run : Run) (n : ℕ) (to : Address) → length run.systems ≤ n → NoneBefore run n to →
-    (s : System) → Among s run.systems → s.file.system ≢ to
+pub none-all : (run : Run) (n : ℕ) (to : Address) → length run.systems ≤ n → NoneBefore run n to → (s : System) → Among s run.systems → s.file.system ≢ to
 none-all run n to all before s h = grind (arith, in-nth)
 
 abbrev Holding : Address → List ℕ → List ℕ → List Packet → Type 0

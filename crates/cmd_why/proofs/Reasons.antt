@@ -2,17 +2,12 @@
 use Rattle.std.specs.{Prelude.codes, Prelude.Contains, Prelude.IfSome, Prelude.◌↔◌, List.flat_map, List.Sorted.IsStrictlySortedBy, Ordering.nat_cmp}
 use Rattle.std.proofs.Common.{◌≡◌, ◌++◌, ℕ, List, [], Option, refl, sym, subst, append_assoc, ◌∙◌, arith}
 use Rattle.echo_links.specs.Links.{LinkFile, upper}
-use Rattle.echo_net.specs.declared.verdict.Verdict.{Verdict}
-use Rattle.cmd_why.specs.{declared.shown.Shown.Shown, Found.IsShown, Sources.files_of}
-use Rattle.cmd_status.specs.{declared.status.Status.Status, Inputs.AreLinkFiles}
-use Rattle.cmd_why.specs.Whys.{AreNamed, AreWhyLines, found_lines, named_in, who_line}
-use Rattle.cmd_check.specs.Checking.{IsCheckVerdict, verdict_status}
-use Rattle.cmd_why.specs.Reasoning.{IsReasoned}
+use Rattle.echo_net.{specs.declared.verdict.Verdict.Verdict, proofs.Drawings.held_again}
+use Rattle.cmd_why.specs.{declared.shown.Shown.Shown, Found.IsShown, Sources.files_of, Whys.{AreNamed, AreWhyLines, found_lines, named_in, who_line}}
+use Rattle.cmd_status.{specs.{declared.status.Status.Status, Inputs.AreLinkFiles}, proofs.Lines.alone}
+use Rattle.cmd_check.{specs.Checking.{IsCheckVerdict, verdict_status}, proofs.Checks.{good_is_yes, of_same, yes_is_good}}
+use Rattle.cmd_why.{specs.Reasoning.IsReasoned, proofs.ShownRuns.was_shown}
 use Rattle.cmd_print.specs.{Checked.verdict_line, Pushed.Pushes}
-use Rattle.cmd_status.proofs.Lines.{alone}
-use Rattle.cmd_check.proofs.Checks.{good_is_yes, of_same, yes_is_good}
-use Rattle.cmd_why.proofs.ShownRuns.{was_shown}
-use Rattle.echo_net.proofs.Drawings.{held_again}
 
 -- lines added to none
 pub were_pushed : (P : List ℕ → Type 0) (none lines : List ℕ) → none ≡ [] → Pushes P none lines → P lines
@@ -21,8 +16,7 @@ were_pushed P none lines nothing pushed = subst P (sym (alone none lines pushed.
 -- the systems that a script names were put in order
 pub were_named : (verdict : Verdict) (found : Option Shown) (before after : List ℕ) → before ≡ named_in verdict found → IsStrictlySortedBy nat_cmp after
     → ((x : ℕ) → Contains after x ↔ Contains before x) → AreNamed verdict found after
-were_named verdict found before after is ascending same =
-    record { ascending = ascending; members = held_again before after (named_in verdict found) is same }
+were_named verdict found before after is ascending same = record { ascending = ascending; members = held_again before after (named_in verdict found) is same }
 
 -- the lines of the verdict, of the systems and of the run were added
 pub why_pushed : (files : List LinkFile) (paths : List (List ℕ)) (tag : List ℕ) (verdict : Verdict) (found : Option Shown) (systems old noted known new : List ℕ)

@@ -1,13 +1,10 @@
 -- The answer of `replay`, from those of its parts.
-use Rattle.std.proofs.Common.{◌≡◌, ℕ, List, [], ◌++◌, length, map, sym, ap, ◌∙◌, Ok}
-use Rattle.std.proofs.lemmas.List.{length-map}
+use Rattle.std.proofs.{Common.{◌≡◌, ℕ, List, [], ◌++◌, length, map, sym, ap, ◌∙◌, Ok}, lemmas.List.length-map}
 use Rattle.echo_links.specs.Links.{LinkFile}
-use Rattle.model_run.specs.{Event.RunEvent, Event.run_event, Run.Run, Run.System, Run.run_of, declared.event.Event.Event}
+use Rattle.model_run.{specs.{Event.{RunEvent, run_event}, Run.{Run, System, run_of}, declared.event.Event.Event}, proofs.HarmSteps.run-files as run_files}
 use Rattle.model_replay.specs.{Script.ScriptOf, Worlds.IsWorldOf, Worlds.WorldState}
-use Rattle.cmd_status.specs.{declared.status.Status.Status, declared.status.Status.TheVariants.Good, Inputs.AreLinkFiles}
+use Rattle.cmd_status.{specs.{declared.status.Status.{Status, TheVariants.Good}, Inputs.AreLinkFiles}, proofs.Lines.alone}
 use Rattle.cmd_why.specs.{Replaying.AreWorldLines, Replaying.IsReplayed, Replayed.replay_lines}
-use Rattle.cmd_status.proofs.Lines.{alone}
-use Rattle.model_run.proofs.HarmSteps.{run-files as run_files}
 
 pub run_length : (files : List LinkFile) (events : List RunEvent) → length (run_of files events).systems ≡ length files
 run_length files events = sym (length-map (run_of files events).systems (λ (s : System). s.file)) ∙ ap length (run_files files events)

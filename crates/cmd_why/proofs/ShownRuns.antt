@@ -1,6 +1,5 @@
 -- A run found by the bytes of link files is a run found on these files.
-use Rattle.std.proofs.Common.{◌≡◌, ℕ, List, [], ◌∷◌, Option, refl, sym, ap, ◌∙◌}
-use Rattle.std.specs.Prelude.{IfSome}
+use Rattle.std.{proofs.Common.{◌≡◌, ℕ, List, [], ◌∷◌, Option, refl, sym, ap, ◌∙◌}, specs.Prelude.IfSome}
 use Rattle.echo_links.specs.{Links.LinkFile, Links.upper, LinkLines.file_of}
 use Rattle.cmd_why.specs.{declared.shown.Shown.Shown, Sources.files_of, Found.IsShown}
 use Rattle.cmd_status.specs.Inputs.{AreLinkFiles}

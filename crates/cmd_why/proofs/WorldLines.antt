@@ -1,7 +1,6 @@
 -- The printed form of a replayed net.
 use Rattle.std.proofs.Common.{◌≡◌, ℕ, ◌+◌, ◌<◌, List, [], ◌∷◌, ◌++◌, length, map, take, get_or, sym, ap, ◌∙◌, arith, append_assoc, append-nil, inl, inr, Bool, Some}
-use Rattle.std.proofs.{Math.ListN.get_or-map, lemmas.List.length-map, lemmas.List.length-take-le, lemmas.List.take_more, lemmas.Option.slice_get_cases}
-use Rattle.std.specs.List.{flat_map}
+use Rattle.std.{proofs.{Math.ListN.get_or-map, lemmas.{List.{length-map, length-take-le, take_more}, Option.slice_get_cases}}, specs.List.flat_map}
 use Rattle.echo_links.specs.Links.{LinkFile}
 use Rattle.model_run.specs.{Run.Run, Run.System, Run.nth, World.is_settled, World.undelivered}
 use Rattle.model_replay.proofs.Exports.{nth-slice_get}

@@ -6,8 +6,7 @@ use Rattle.echo_links.specs.Links.{LinkFile, has_area}
 use Rattle.echo_filed.specs.{declared.key.Key.TheVariants.ById, Filed.Filed, Filed.key_of}
 use Rattle.model_steps.specs.declared.packet.Packet.{Packet}
 use Rattle.model_run.specs.{Orderly.IsPosting, Orderly.Settled, Orderly.copies, Orderly.count, Orderly.sent_count, Run.Run, Run.System, Run.destination, Run.nth}
-use Rattle.cmd_why.specs.declared.shown.{Harm.Harm, Harm.TheVariants.NeverGets, Harm.TheVariants.NeverSettles, Harm.TheVariants.SentAgain, Harm.TheVariants.SentOwn, Shown.Shown}
-use Rattle.cmd_why.specs.Shown.{shown_run}
+use Rattle.cmd_why.specs.{declared.shown.{Harm.{Harm, TheVariants.{NeverGets, NeverSettles, SentAgain, SentOwn}}, Shown.Shown}, Shown.shown_run}
 
 -- A system with the area has this address.
 pub record IsCarrierAt (run : Run) (tag : List ℕ) (a : Address) : Type 0 where

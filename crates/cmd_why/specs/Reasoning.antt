@@ -5,9 +5,8 @@ use Rattle.cmd_status.specs.Inputs.{AreLinkFiles, IsFirstFaultGiven}
 use Rattle.echo_links.specs.Links.{LinkFile, upper}
 use Rattle.model_run.specs.Tidy.{Tidy}
 use Rattle.echo_net.specs.declared.verdict.Verdict.{Verdict}
-use Rattle.cmd_why.specs.{declared.shown.Shown.Shown, Found.IsShown}
+use Rattle.cmd_why.specs.{declared.shown.Shown.Shown, Found.IsShown, Whys.AreWhyLines}
 use Rattle.cmd_check.specs.Checking.{IsCheckVerdict, verdict_status}
-use Rattle.cmd_why.specs.Whys.{AreWhyLines}
 
 -- The link files have no fault. These lines are the verdict on the area of the tag in upper case. After a no there
 -- may be a run on these files that has the harm. Each system in the run has its address and the path of its file. The

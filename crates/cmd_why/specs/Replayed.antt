@@ -1,6 +1,5 @@
 -- The lines of `replay`.
-use Rattle.std.specs.Prelude.{ℕ, ◌+◌, Bool, List, [], ◌∷◌, ◌++◌, codes, decimal, if◌then◌else◌, length}
-use Rattle.std.specs.List.{flat_map}
+use Rattle.std.specs.{Prelude.{ℕ, ◌+◌, Bool, List, [], ◌∷◌, ◌++◌, codes, decimal, if◌then◌else◌, length}, List.flat_map}
 use Rattle.echo_addr.specs.{declared.address.Address.Address, Address.address_text}
 use Rattle.echo_links.specs.Links.{Area, LinkFile}
 use Rattle.model_run.specs.{Run.Run, World.filed_at, World.is_settled, World.undelivered, World.waiting_at}

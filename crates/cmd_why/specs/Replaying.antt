@@ -34,8 +34,7 @@ AreWorldLines systems world lines =
 
 -- The right result of printing a net.
 abbrev pub PrintsWorld : ℕ → WorldState → Output → Output → Result Status Fault → Type 0
-PrintsWorld systems world old new answer =
-    Answers (λ lines status. AreWorldLines systems world lines × (status ≡ Good)) (λ fault. ⊥) old new answer
+PrintsWorld systems world old new answer = Answers (λ lines status. AreWorldLines systems world lines × (status ≡ Good)) (λ fault. ⊥) old new answer
 
 -- The right result of replaying a script.
 abbrev pub ReplayAnswers : List ℕ → List (List ℕ) → Option Fault → Output → Output → Result Status Fault → Type 0

@@ -20,8 +20,7 @@ move_line (Deliver packet) = codes "DELIVER " ++ (decimal packet ++ codes "\n")
 
 -- The line of the harm that the message of this id does, as a note.
 abbrev pub harm_line : List ℕ → Harm → List ℕ
-harm_line id (SentAgain a times) =
-    codes "; " ++ (address_text a ++ (codes " is sent " ++ (id ++ (codes " " ++ (decimal times ++ codes " times\n")))))
+harm_line id (SentAgain a times) = codes "; " ++ (address_text a ++ (codes " is sent " ++ (id ++ (codes " " ++ (decimal times ++ codes " times\n")))))
 harm_line id (SentOwn a) = codes "; " ++ (address_text a ++ (codes " is sent its own " ++ (id ++ codes "\n")))
 harm_line id (NeverGets a) = codes "; " ++ (address_text a ++ (codes " never gets " ++ (id ++ codes "\n")))
 harm_line id NeverSettles = codes "; " ++ (id ++ codes " never comes to rest\n")

@@ -1,6 +1,5 @@
 //! The lines of a replayed net.
-ghost use Rattle.std.specs.Prelude.{◌≡◌, ◌++◌, OnOk, Some, length, map, slice_get};
-ghost use Rattle.std.specs.List.{flat_map};
+ghost use Rattle.std.specs.{Prelude.{◌≡◌, ◌++◌, OnOk, Some, length, map, slice_get}, List.flat_map};
 ghost use Rattle.echo_links.specs.Links.{Area};
 ghost use Rattle.model_run.specs.Run.{Run, System, nth};
 ghost use Rattle.model_replay.specs.Worlds.{IsWorldOf};

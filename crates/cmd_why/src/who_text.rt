@@ -1,6 +1,5 @@
 //! The lines for the systems that a run names by numbers.
-ghost use Rattle.std.specs.Prelude.{◌≡◌, ◌++◌, IfOk, OnOk, option_copied};
-ghost use Rattle.std.specs.List.{flat_map};
+ghost use Rattle.std.specs.{Prelude.{◌≡◌, ◌++◌, IfOk, OnOk, option_copied}, List.flat_map};
 ghost use Rattle.cmd_why.specs.Whys.{AreNamed, named_in, named_line, path_text, scanning, who_line};
 
 use crate::shown::Shown;

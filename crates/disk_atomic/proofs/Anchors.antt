@@ -1,6 +1,5 @@
 -- Packets that are whole on the disk at one of their two paths, while another packet gets its path.
-use Rattle.std.proofs.Common.{◌≡◌, ◌⊎◌, inl, inr, ⊎_elim, ◌∙◌, Bool, true, false, List, ℕ, subst, sym, arith}
-use Rattle.std.specs.Prelude.{IsSome}
+use Rattle.std.{proofs.Common.{◌≡◌, ◌⊎◌, inl, inr, ⊎_elim, ◌∙◌, Bool, true, false, List, ℕ, subst, sym, arith}, specs.Prelude.IsSome}
 use Rattle.disk_io.specs.Disk.{DiskState, Files}
 use Rattle.disk_atomic.specs.Naming.{HasItsPath, HasMoved, KeepsPath, Names, IsWholeAtEither, StaysThere}
 use Rattle.disk_atomic.specs.{Changes.ChangesOnly, Changes.HasOnDisk, Outgoing.AreApart, Outgoing.IsStaged, declared.outgoing.Outgoing.Outgoing}

@@ -1,7 +1,6 @@
 -- Staging files of disjoint packets, one of which grew.
 use Rattle.std.proofs.Common.{◌≡◌, ◌≢◌, ◌∙◌, ⊎_elim, ℕ, ◌<◌, ◌≤◌, ◌+◌, ◌++◌, List, ap, arith, get_or, length, subst, sym}
-use Rattle.std.proofs.lemmas.{Bool.cases_order, List.get_or_default}
-use Rattle.std.specs.{Prelude.All, Prelude.AllPairs, List.AllWithin}
+use Rattle.std.{proofs.lemmas.{Bool.cases_order, List.get_or_default}, specs.{Prelude.{All, AllPairs}, List.AllWithin}}
 use Rattle.echo_addr.specs.declared.address.Address.{Address}
 use Rattle.disk_io.specs.Disk.{DiskState, bytes_in}
 use Rattle.disk_atomic.specs.{Changes.CanGrow, Changes.ChangesOnly, Outgoing.AreApart, Outgoing.CanGrowStaging, Outgoing.IsLonger, Outgoing.staged_in, declared.outgoing.Outgoing.Outgoing}

@@ -1,7 +1,6 @@
 -- How runs that change some files go on.
 use Rattle.std.proofs.Common.{◌≡◌, inl, ◌∙◌, List, ℕ, Option, Some, refl, sym, subst, arith}
-use Rattle.disk_io.specs.Runs.{ChangesAt, ChangesNothing, LeavesOnly, NoPath, OneStepOn, ThisPath}
-use Rattle.disk_io.specs.{Disk.DiskState, Disk.Files, Steps.ChangesFile}
+use Rattle.disk_io.specs.{Runs.{ChangesAt, ChangesNothing, LeavesOnly, NoPath, OneStepOn, ThisPath}, Disk.{DiskState, Files}, Steps.ChangesFile}
 use Rattle.disk_io.proofs.Moments.{left_now, no_call, one_call, then_run, weaker_run}
 use Rattle.disk_atomic.specs.Changes.{ChangesOnly, DifferAt, HasOnDisk}
 

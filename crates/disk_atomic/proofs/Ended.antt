@@ -1,8 +1,6 @@
 use Rattle.std.proofs.Common.{◌≡◌, ◌≢◌, ◌⊎◌, inl, inr, ⊎_elim, ◌∙◌, ◌+◌, ◌<◌, ◌≤◌, ℕ, List, [], arith, get_or, length, refl, subst, sym}
-use Rattle.std.proofs.lemmas.{Bool.cases_lt, List.Elements.AllWithin-none}
-use Rattle.std.specs.{Prelude.AllPairs, Prelude.IsSome, List.AllWithin}
-use Rattle.disk_io.specs.Runs.{ChangesAt, ChangesNothing, LeavesOnly, OneStepOn, ThisPath}
-use Rattle.disk_io.specs.{Disk.DiskState, Disk.Files, Steps.ChangesFile, Steps.TornRemoval}
+use Rattle.std.{proofs.lemmas.{Bool.cases_lt, List.Elements.AllWithin-none}, specs.{Prelude.{AllPairs, IsSome}, List.AllWithin}}
+use Rattle.disk_io.specs.{Runs.{ChangesAt, ChangesNothing, LeavesOnly, OneStepOn, ThisPath}, Disk.{DiskState, Files}, Steps.{ChangesFile, TornRemoval}}
 use Rattle.disk_io.proofs.Moments.{one_call, then_run, weaker_run}
 use Rattle.disk_atomic.specs.Finishing.{AreAway, AreNamed, EndsAs, Finishes, FinishesEach, IsOfLeft, IsOver, KeepsFile}
 use Rattle.disk_atomic.specs.{Changes.ChangesOnly, Changes.DifferAt, Naming.Names, declared.finishing.Left.Left}

@@ -1,9 +1,7 @@
-use Rattle.std.proofs.Common.{◌≡◌, ℕ, zero, suc, ◌+◌, ◌<◌, List, [], ◌∷◌, ◌++◌, length, Some, arith, length-append}
+use Rattle.std.{proofs.Common.{◌≡◌, ℕ, zero, suc, ◌+◌, ◌<◌, List, [], ◌∷◌, ◌++◌, length, Some, arith, length-append}, specs.Prelude.{IsSome, slice_index}}
 use Rattle.std.proofs.lemmas.List.{append-nil, drop_all, take_all}
-use Rattle.std.specs.Prelude.{IsSome, slice_index}
 use Rattle.disk_io.specs.{Disk.DiskState, Disk.bytes_in, Fixed.AreBytes, Steps.IsWrittenAt}
-use Rattle.disk_atomic.specs.Changes.{IsGrowing}
-use Rattle.disk_atomic.proofs.Whole.{some_is_there}
+use Rattle.disk_atomic.{specs.Changes.IsGrowing, proofs.Whole.some_is_there}
 
 pub are_both : (a b : List ℕ) → AreBytes a → AreBytes b → (i : ℕ) → slice_index (a ++ b) i < 256
 are_both [] b one two i = two i

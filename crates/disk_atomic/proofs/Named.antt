@@ -1,10 +1,8 @@
 -- The files that a crash leaves while a packet gets its path, by a second path and the removal of the first.
 use Rattle.std.proofs.Common.{◌≡◌, ◌≢◌, ◌⊎◌, inl, inr, ⊎_elim, ◌∙◌, ℕ, List, refl, sym}
 use Rattle.disk_io.specs.Runs.{ChangesAt, ChangesNothing, EitherPath, LeavesOnly, OneStepOn, ThisPath}
-use Rattle.disk_io.specs.{Disk.DiskState, Steps.ChangesFile, Steps.TornNaming, Steps.TornRemoval}
-use Rattle.disk_io.proofs.{Moments.one_call, Moments.then_nothing, Tearing.ChangesFile-none}
-use Rattle.disk_atomic.specs.Naming.{Gives, Names}
-use Rattle.disk_atomic.proofs.Changes.{only_call, only_nothing, then_only, then_steps}
+use Rattle.disk_io.{specs.{Disk.DiskState, Steps.{ChangesFile, TornNaming, TornRemoval}}, proofs.{Moments.{one_call, then_nothing}, Tearing.ChangesFile-none}}
+use Rattle.disk_atomic.{specs.Naming.{Gives, Names}, proofs.Changes.{only_call, only_nothing, then_only, then_steps}}
 
 abbrev Links : List ℕ → List ℕ → DiskState → DiskState → Type 0
 Links path staging old new = ChangesAt (ThisPath path) (ThisPath path) (EitherPath staging path) (ChangesFile old path (TornNaming (old.seen staging))) old new

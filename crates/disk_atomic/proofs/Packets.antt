@@ -1,11 +1,9 @@
 -- Disjoint packets, and the effect of a call at one of them on the others.
-use Rattle.std.proofs.Common.{◌≡◌, ◌⊎◌, ⊎_elim, ◌∙◌, ◌<◌, ℕ, List, [], ap, get_or, length, refl, sym, arith}
-use Rattle.std.proofs.lemmas.{Bool.cases_order, List.Elements.at_read}
+use Rattle.std.proofs.{Common.{◌≡◌, ◌⊎◌, ⊎_elim, ◌∙◌, ◌<◌, ℕ, List, [], ap, get_or, length, refl, sym, arith}, lemmas.{Bool.cases_order, List.Elements.at_read}}
 use Rattle.std.specs.Prelude.{All, Contains}
 use Rattle.disk_io.specs.{Disk.DiskState, Runs.ChangesNothing}
-use Rattle.disk_atomic.specs.Outgoing.{AreApart, ArePlaced, IsStagingOne, IsStagingGone, IsMade, IsStagingNamed, IsOfOne}
+use Rattle.disk_atomic.{specs.Outgoing.{AreApart, ArePlaced, IsStagingOne, IsStagingGone, IsMade, IsStagingNamed, IsOfOne}, proofs.Changes.wider}
 use Rattle.disk_atomic.specs.{Changes.ChangesOnly, declared.outgoing.Outgoing.Outgoing}
-use Rattle.disk_atomic.proofs.Changes.{wider}
 
 pub apart_back : (p q : Outgoing) → AreApart p q → AreApart q p
 apart_back p q a = record {

@@ -1,9 +1,7 @@
-use Rattle.std.proofs.Common.{◌≡◌, ◌∙◌, ℕ, ◌≤◌, List, ◌++◌, length, take, drop, Some, ap, refl, sym, arith, append_assoc}
+use Rattle.std.{proofs.Common.{◌≡◌, ◌∙◌, ℕ, ◌≤◌, List, ◌++◌, length, take, drop, Some, ap, refl, sym, arith, append_assoc}, specs.Prelude.IsSome}
 use Rattle.std.proofs.lemmas.List.{append-nil, drop-append-le, drop_all, length-take, length-take-le, nil_from_length, take-append-drop, take-append-le}
-use Rattle.std.specs.Prelude.{IsSome}
 use Rattle.disk_io.specs.{Disk.DiskState, Disk.bytes_in, Runs.ChangesNothing}
-use Rattle.disk_atomic.specs.{Changes.HasOnDisk, Changes.IsGrowing, Keeping.HasPart}
-use Rattle.disk_atomic.proofs.Whole.{file_of_bytes}
+use Rattle.disk_atomic.{specs.{Changes.{HasOnDisk, IsGrowing}, Keeping.HasPart}, proofs.Whole.file_of_bytes}
 
 pub still_grows : (old new : DiskState) (path : List ℕ) (at : ℕ) → ChangesNothing old new → IsGrowing old path at → IsGrowing new path at
 still_grows old new path at quiet was = grind arith

@@ -1,9 +1,7 @@
 -- The files that a crash leaves while a call replaces a file through a staging path.
 use Rattle.std.proofs.Common.{◌≡◌, ◌≢◌, inl, inr, ⊎_elim, ◌∙◌, ℕ, List, refl, sym, arith}
-use Rattle.disk_io.specs.{Disk.DiskState, Disk.Files, Steps.RenamesFile, Runs.ChangesAt, Runs.EitherPath, Runs.LeavesOnly, Runs.OneStepOn}
-use Rattle.disk_io.proofs.Moments.{one_call}
-use Rattle.disk_atomic.specs.{Changes.ChangesOnly, Changes.DifferAt, Changes.HasOnDisk, Replacing.Replaces}
-use Rattle.disk_atomic.proofs.Changes.{then_steps, weaker_steps}
+use Rattle.disk_io.{specs.{Disk.{DiskState, Files}, Steps.RenamesFile, Runs.{ChangesAt, EitherPath, LeavesOnly, OneStepOn}}, proofs.Moments.one_call}
+use Rattle.disk_atomic.{specs.{Changes.{ChangesOnly, DifferAt, HasOnDisk}, Replacing.Replaces}, proofs.Changes.{then_steps, weaker_steps}}
 
 module _ (path staging bytes : List ℕ) where
   abbrev Renames : DiskState → DiskState → Type 0

@@ -1,8 +1,7 @@
 -- A path that is tried with a file that has another one.
 use Rattle.std.proofs.Common.{◌≡◌, ◌≢◌, ◌⊎◌, ◌∙◌, ℕ, List, arith}
 use Rattle.disk_io.specs.{Disk.DiskState, Runs.ChangesNothing}
-use Rattle.disk_atomic.specs.{Changes.ChangesOnly, Naming.Gives, Trying.Tries}
-use Rattle.disk_atomic.proofs.Changes.{only_nothing, then_only, wider}
+use Rattle.disk_atomic.{specs.{Changes.ChangesOnly, Naming.Gives, Trying.Tries}, proofs.Changes.{only_nothing, then_only, wider}}
 
 module _ (trial from : List ℕ) (other : from ≢ trial) (old new : DiskState) where
   pub tries_only : ChangesOnly (λ m. m ≡ trial) old new → Tries old new trial from

@@ -1,7 +1,6 @@
 -- A file that was empty, once its bytes are written.
 use Rattle.std.proofs.Common.{◌⊎◌, inl, inr, ◌&&◌, ◌↔◌, Bool, false, true, Result, Ok, Err, ◌≡◌, ℕ, List, [], Option, Some, None, ap, refl, subst, sym, arith}
-use Rattle.std.proofs.lemmas.{List.append-nil, List.drop_all, Slice.Eq.bytes_eq-Decides}
-use Rattle.std.specs.Prelude.{bytes_eq, IsSome, IsTrue, OnOk}
+use Rattle.std.{proofs.lemmas.{List.{append-nil, drop_all}, Slice.Eq.bytes_eq-Decides}, specs.Prelude.{bytes_eq, IsSome, IsTrue, OnOk}}
 use Rattle.disk_io.specs.{Disk.bytes_in, Steps.IsWrittenAt}
 
 pub file_of_bytes : (file : Option (List ℕ)) (bytes : List ℕ) → IsSome file → bytes_in file ≡ bytes → file ≡ Some bytes

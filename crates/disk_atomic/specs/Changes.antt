@@ -1,7 +1,6 @@
 -- The changes that a run of calls makes, as reads show them and after a crash at any time.
 use Rattle.std.specs.Prelude.{◌≡◌, List, ℕ, length, IsSome, Some}
-use Rattle.disk_io.specs.Runs.{KeepsAlone, KeepsFlushed, KeepsNamed, LeavesOnly, OneStepOn}
-use Rattle.disk_io.specs.{Disk.DiskState, Disk.Files, Disk.bytes_in, Fixed.AreBytes}
+use Rattle.disk_io.specs.{Runs.{KeepsAlone, KeepsFlushed, KeepsNamed, LeavesOnly, OneStepOn}, Disk.{DiskState, Files, bytes_in}, Fixed.AreBytes}
 
 -- The files are the same, except at these paths.
 abbrev pub DifferAt : (List ℕ → Type 0) → Files → Files → Type 0

@@ -1,7 +1,6 @@
 ghost use Rattle.std.specs.Prelude.{◌≡◌, All, AllPairs, None, OnOk};
 ghost use Rattle.disk_io.specs.{Disk.Honestly, Disk.IsIn, Runs.HasCause};
-ghost use Rattle.disk_atomic.specs.Outgoing.{AreApart, ArePlaced, IsAtStaging, IsStagingOne, IsStagingGone, IsStagingNamed, IsOfOne};
-ghost use Rattle.disk_atomic.specs.Changes.{ChangesOnly};
+ghost use Rattle.disk_atomic.specs.{Outgoing.{AreApart, ArePlaced, IsAtStaging, IsStagingOne, IsStagingGone, IsStagingNamed, IsOfOne}, Changes.ChangesOnly};
 
 use crate::outgoing::Outgoing;
 use disk_io::{Disk, DiskError, sync_parent_folder};

@@ -2,8 +2,7 @@
 ghost use Rattle.std.specs.Prelude.{◌≡◌, ◌⊎◌, ◌↔◌, ℕ, List, true, false, All, IfOk, IsTrue, None, OnOk, IsSome};
 ghost use Rattle.disk_io.specs.{Disk.Honestly, Disk.IsIn, Runs.ChangesNothing, Runs.HasCause, Runs.LeavesOnly, Runs.OneStepOn};
 ghost use Rattle.disk_atomic.specs.Naming.{AreBothIn, CanLink, Gives, HasItsPath, HasMoved, IsTaken, KeepsPath, Names, NamesEach, StaysThere};
-ghost use Rattle.disk_atomic.specs.Outgoing.{ArePlaced, IsFree, IsOfOne, IsStaged, staged_in};
-ghost use Rattle.disk_atomic.specs.Changes.{ChangesOnly};
+ghost use Rattle.disk_atomic.specs.{Outgoing.{ArePlaced, IsFree, IsOfOne, IsStaged, staged_in}, Changes.ChangesOnly};
 
 use crate::outgoing::Outgoing;
 use disk_io::{Disk, DiskError, read_file, sync_parent_folder};

@@ -1,7 +1,6 @@
 ghost use Rattle.std.specs.Prelude.{◌≡◌, ℕ, List, true, false, All, AllPairs, IfOk, OnOk};
 ghost use Rattle.disk_io.specs.{Disk.Honestly, Disk.IsIn, Runs.ChangesNothing, Runs.HasCause};
-ghost use Rattle.disk_atomic.specs.Outgoing.{AreApart, ArePlaced, IsStagingOne, IsFree, IsMade, IsStagingNamed};
-ghost use Rattle.disk_atomic.specs.Changes.{ChangesOnly};
+ghost use Rattle.disk_atomic.specs.{Outgoing.{AreApart, ArePlaced, IsStagingOne, IsFree, IsMade, IsStagingNamed}, Changes.ChangesOnly};
 
 use crate::outgoing::Outgoing;
 use disk_io::{Disk, DiskError, sync_parent_folder};

@@ -1,6 +1,5 @@
 -- One byte more of a word.
-use Rattle.std.proofs.Common.{◌≡◌, refl, sym, ap, ◌∙◌, ℕ, ◌+◌, add-one, List, ◌++◌, append_assoc}
-use Rattle.std.specs.Prelude.{Bool, true, false, ◌&&◌}
+use Rattle.std.{proofs.Common.{◌≡◌, refl, sym, ap, ◌∙◌, ℕ, ◌+◌, add-one, List, ◌++◌, append_assoc}, specs.Prelude.{Bool, true, false, ◌&&◌}}
 use Rattle.echo_charset.specs.Words.{are_shown, is_shown, spelled, spelled_at}
 
 are-more : (word : List ℕ) (i : ℕ) → are_shown word (i + 1) ≡ (are_shown word i && is_shown word i)

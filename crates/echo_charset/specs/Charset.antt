@@ -1,9 +1,8 @@
 -- Charsets of message texts: their names, their characters, and bytes as text.
 use Rattle.std.specs.Prelude.{ℕ, ◌+◌, ◌-◌, ◌||◌, nat_lt, Bool, true, false, if◌then◌else◌, List, map, codes, bytes_eq, slice_index, encode_utf8, Option, Some, None}
 use Rattle.std.specs.{List.flat_map, Char.to_ascii_lowercase, Str.Lossy.utf8_lossy}
-use Rattle.echo_charset.specs.declared.charset.Charset.TheVariants.{Ascii, Cp437, Cp850, Cp866, Cp1251, Koi8R, Latin1, Utf8}
+use Rattle.echo_charset.specs.declared.charset.Charset.{TheVariants.{Ascii, Cp437, Cp850, Cp866, Cp1251, Koi8R, Latin1, Utf8}, Charset}
 use Rattle.echo_charset.specs.declared.tables.TheConstants.{CP437, CP850, CP866, CP1251, KOI8_R}
-use Rattle.echo_charset.specs.declared.charset.Charset.{Charset}
 
 abbrev pub is_called : List ℕ → List ℕ → Bool
 is_called name word = bytes_eq (map to_ascii_lowercase name) (map to_ascii_lowercase word)

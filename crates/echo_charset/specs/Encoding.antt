@@ -1,6 +1,5 @@
 -- Texts in the bytes of a charset.
-use Rattle.std.specs.Prelude.{ℕ, ◌≡◌, ◌<◌, ◌⊎◌, false, Contains, List}
-use Rattle.std.specs.Str.{chars}
+use Rattle.std.specs.{Prelude.{ℕ, ◌≡◌, ◌<◌, ◌⊎◌, false, Contains, List}, Str.chars}
 use Rattle.echo_charset.specs.{declared.charset.Charset.Charset, Charset.character, Charset.is_utf8}
 
 -- No byte of the charset is this character. U+FFFD marks a missing character and is never encoded.

@@ -1,6 +1,5 @@
 -- The printed form of bytes.
-use Rattle.std.specs.Prelude.{ℕ, ◌/◌, ◌%◌, List, [], ◌∷◌, ◌++◌, codes, nat_le, slice_index, not, Bool, ◌&&◌, ◌==◌, if◌then◌else◌}
-use Rattle.std.specs.List.{flat_map}
+use Rattle.std.specs.{Prelude.{ℕ, ◌/◌, ◌%◌, List, [], ◌∷◌, ◌++◌, codes, nat_le, slice_index, not, Bool, ◌&&◌, ◌==◌, if◌then◌else◌}, List.flat_map}
 use Rattle.hex.specs.Hex.{lower_digits}
 
 -- A byte that is printed unchanged: 20 to 7E, except the backslash.

@@ -19,8 +19,7 @@ is_two a b = is_within 194 223 a && (follows b && not (a == 194 && nat_le b 159)
 
 -- The marks that turn the direction of a text: 200E, 200F, 202A to 202E and 2066 to 2069.
 abbrev pub is_direction : ℕ → ℕ → ℕ → Bool
-is_direction a b c =
-    a == 226 && ((b == 128 && (is_within 142 143 c || is_within 170 174 c)) || (b == 129 && is_within 166 169 c))
+is_direction a b c = a == 226 && ((b == 128 && (is_within 142 143 c || is_within 170 174 c)) || (b == 129 && is_within 166 169 c))
 
 -- The first two of three bytes. They spell nothing that fits in two bytes, and no half of a UTF-16 pair.
 abbrev pub begins_three : ℕ → ℕ → Bool
@@ -42,8 +41,7 @@ is_four a b c d = begins_four a b && (follows c && follows d)
 
 -- The length in bytes of the visible character at the front, or 0 if there is no such character.
 abbrev pub visible_of : ℕ → ℕ → ℕ → ℕ → ℕ
-visible_of a b c d =
-    if is_one a then 1 else if is_two a b then 2 else if is_three a b c then 3 else if is_four a b c d then 4 else 0
+visible_of a b c d = if is_one a then 1 else if is_two a b then 2 else if is_three a b c then 3 else if is_four a b c d then 4 else 0
 
 -- The length of the visible character at an index. A byte past the end belongs to no character.
 abbrev pub visible_at : List ℕ → ℕ → ℕ

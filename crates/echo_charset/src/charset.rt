@@ -1,5 +1,4 @@
-ghost use Rattle.std.specs.Prelude.{◌≡◌, ◌<◌, bytes_eq, map, string_bytes, IfOk};
-ghost use Rattle.std.specs.Char.{to_ascii_lowercase};
+ghost use Rattle.std.specs.{Prelude.{◌≡◌, ◌<◌, bytes_eq, map, string_bytes, IfOk}, Char.to_ascii_lowercase};
 
 use crate::tables::{CP437, CP850, CP866, CP1251, KOI8_R};
 use std::alloc::{AllocError, Global};

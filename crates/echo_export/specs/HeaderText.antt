@@ -64,8 +64,7 @@ next_room charset room b = (if is_within_word charset room b then room else word
 
 -- The text that a byte adds to a word with this much room.
 abbrev pub next_text : Option Charset → ℕ → ℕ → List ℕ
-next_text charset room b =
-    if is_within_word charset room b then q_byte b else codes "?=\n " ++ (q_front charset ++ q_byte b)
+next_text charset room b = if is_within_word charset room b then q_byte b else codes "?=\n " ++ (q_front charset ++ q_byte b)
 
 -- The bytes in words, the first of which has this much room.
 abbrev pub q_text : Option Charset → ℕ → List ℕ → List ℕ
@@ -81,8 +80,7 @@ header_text charset bytes = if is_plain_text is_field_byte bytes then bytes else
 
 -- A name in a header line: in quotes if allowed, otherwise as encoded words.
 abbrev pub name_text : Option Charset → List ℕ → List ℕ
-name_text charset name =
-    if is_plain_text is_name_byte name then codes "\"" ++ (name ++ codes "\"") else encoded_words charset name
+name_text charset name = if is_plain_text is_name_byte name then codes "\"" ++ (name ++ codes "\"") else encoded_words charset name
 
 -- The line of a name, which has no mail address.
 abbrev pub name_line : List ℕ → Option Charset → List ℕ → List ℕ

@@ -1,8 +1,6 @@
 -- A message as one line of JSON (RFC 8259).
-use Rattle.std.specs.Prelude.{ℕ, List, [], ◌∷◌, ◌++◌, codes, decimal, length, Option, Some, None, option_map}
-use Rattle.std.specs.List.{flat_map}
-use Rattle.json.specs.Token.{Token, begin_array, begin_object, end_array, end_object, key, null, number, string}
-use Rattle.json.specs.Print.{print}
+use Rattle.std.specs.{Prelude.{ℕ, List, [], ◌∷◌, ◌++◌, codes, decimal, length, Option, Some, None, option_map}, List.flat_map}
+use Rattle.json.specs.{Token.{Token, begin_array, begin_object, end_array, end_object, key, null, number, string}, Print.print}
 use Rattle.echo_addr.specs.{declared.address.NetNode.NetNode, Address.address_text, Address.net_node_text}
 use Rattle.echo_charset.specs.{declared.charset.Charset.Charset, declared.charset.Charset.TheVariants.Ascii, declared.charset.Charset.TheVariants.Latin1, Charset.charset_name}
 use Rattle.echo_filed.specs.Filed.{Filed}

@@ -4,10 +4,8 @@ use Rattle.std.specs.{List.flat_map, List.list_any, List.starts_with, Int.is_in_
 use Rattle.echo_addr.specs.{declared.address.NetNode.NetNode, Address.net_node_text}
 use Rattle.echo_charset.specs.{declared.charset.Charset.Charset, Losses.lost}
 use Rattle.echo_filed.specs.Filed.{Filed}
-use Rattle.echo_text.specs.Echo.{EchoText, msgid_of, origin_of, reply_of, tear_of}
-use Rattle.echo_text.specs.Lines.{after_feeds, is_control}
-use Rattle.echo_export.specs.HeaderText.{field_line, found_line, id_line, mail_bytes, mail_charset, name_line}
-use Rattle.echo_export.specs.Label.{charset_for, label_of, without_zeros}
+use Rattle.echo_text.specs.{Echo.{EchoText, msgid_of, origin_of, reply_of, tear_of}, Lines.{after_feeds, is_control}}
+use Rattle.echo_export.specs.{HeaderText.{field_line, found_line, id_line, mail_bytes, mail_charset, name_line}, Label.{charset_for, label_of, without_zeros}}
 
 abbrev pub is_digit_at : List ℕ → ℕ → Bool
 is_digit_at date i = is_in_range 48 57 (slice_index date i)
@@ -55,13 +53,11 @@ century date = if nat_le 56 (slice_index date 7) then codes "19" else codes "20"
 
 -- The line of a date in the usual form.
 abbrev pub customary_line : List ℕ → List ℕ
-customary_line date =
-    codes "Date: " ++ (take 7 date ++ (century date ++ (slice_range date 7 9 ++ (codes " " ++ (slice_range date 11 19 ++ codes " -0000\n")))))
+customary_line date = codes "Date: " ++ (take 7 date ++ (century date ++ (slice_range date 7 9 ++ (codes " " ++ (slice_range date 11 19 ++ codes " -0000\n")))))
 
 -- The line of a date, in the form of a mail. A DateTime of another form remains unchanged.
 abbrev pub date_line : Option Charset → List ℕ → List ℕ
-date_line charset date =
-    if is_customary date then customary_line date else field_line (codes "X-FTN-Date") charset (without_zeros date)
+date_line charset date = if is_customary date then customary_line date else field_line (codes "X-FTN-Date") charset (without_zeros date)
 
 -- The first line of a message in a mailbox, without author and date.
 abbrev pub mailbox_line : List ℕ
@@ -75,8 +71,7 @@ name_lines charset m =
 
 -- The lines of ids, which mail programs use to show threads.
 abbrev pub id_lines : List (List ℕ) → List ℕ
-id_lines kept =
-    id_line (codes "Message-ID") (msgid_of kept) ++ (id_line (codes "In-Reply-To") (reply_of kept) ++ id_line (codes "References") (reply_of kept))
+id_lines kept = id_line (codes "Message-ID") (msgid_of kept) ++ (id_line (codes "In-Reply-To") (reply_of kept) ++ id_line (codes "References") (reply_of kept))
 
 abbrev pub found_lines : Option Charset → List (List ℕ) → List ℕ
 found_lines charset kept =
@@ -108,8 +103,7 @@ way_lines e = codes "Newsgroups: " ++ (area_text e.tag ++ (seen_line (length e.s
 
 -- The lines that describe the body, and the empty line after them.
 abbrev pub form_lines : Option Charset → List ℕ
-form_lines charset =
-    codes "MIME-Version: 1.0\nContent-Type: text/plain; charset=" ++ (mail_charset charset ++ codes "\nContent-Transfer-Encoding: 8bit\n\n")
+form_lines charset = codes "MIME-Version: 1.0\nContent-Type: text/plain; charset=" ++ (mail_charset charset ++ codes "\nContent-Transfer-Encoding: 8bit\n\n")
 
 -- The word that no line of a mailbox may begin with.
 abbrev pub from_word : List ℕ
@@ -118,13 +112,11 @@ from_word = codes "From "
 -- The bytes of a body, with `>` before each line that begins with that word. `first` means that the first byte begins a line.
 abbrev pub quoted_body : Bool → List ℕ → List ℕ
 quoted_body first [] = []
-quoted_body first (b ∷ rest) =
-    (if first && starts_with nat_eq (b ∷ rest) from_word then codes ">" else []) ++ b ∷ quoted_body (b == 10) rest
+quoted_body first (b ∷ rest) = (if first && starts_with nat_eq (b ∷ rest) from_word then codes ">" else []) ++ b ∷ quoted_body (b == 10) rest
 
 -- A line of the body, without the line feeds at its front. Kludge lines are left out.
 abbrev pub body_line : Option Charset → List ℕ → List ℕ
-body_line charset line =
-    if is_control line then [] else quoted_body true (mail_bytes charset (after_feeds line)) ++ codes "\n"
+body_line charset line = if is_control line then [] else quoted_body true (mail_bytes charset (after_feeds line)) ++ codes "\n"
 
 abbrev pub body_text : Option Charset → List (List ℕ) → List ℕ
 body_text charset kept = flat_map (body_line charset) kept
@@ -140,8 +132,7 @@ head_text label m =
 
 -- A message of a mailbox, with the empty line at its end.
 abbrev pub mail_text : Filed → List ℕ
-mail_text m =
-    head_text (label_of m.echo.kept) m ++ (body_text (charset_for (label_of m.echo.kept)) m.echo.kept ++ codes "\n")
+mail_text m = head_text (label_of m.echo.kept) m ++ (body_text (charset_for (label_of m.echo.kept)) m.echo.kept ++ codes "\n")
 
 -- Names and subject in a row, in the form of a mail.
 abbrev pub name_bytes : Option Charset → Filed → List ℕ
@@ -151,5 +142,4 @@ abbrev pub all_bytes : Option Charset → Filed → List ℕ → List ℕ
 all_bytes charset m body = name_bytes charset m ++ body
 
 abbrev pub mail_lost : Filed → ℕ
-mail_lost m =
-    lost (all_bytes (charset_for (label_of m.echo.kept)) m (body_text (charset_for (label_of m.echo.kept)) m.echo.kept))
+mail_lost m = lost (all_bytes (charset_for (label_of m.echo.kept)) m (body_text (charset_for (label_of m.echo.kept)) m.echo.kept))

@@ -1,6 +1,5 @@
 //! Header lines of a mail.
-ghost use Rattle.std.specs.Prelude.{◌≡◌, ◌≤◌, ◌++◌, bytes_eq, codes, option_copied, IfOk, OnOk};
-ghost use Rattle.std.specs.List.{list_all};
+ghost use Rattle.std.specs.{Prelude.{◌≡◌, ◌≤◌, ◌++◌, bytes_eq, codes, option_copied, IfOk, OnOk}, List.list_all};
 ghost use Rattle.echo_text.specs.Lines as text_lines;
 ghost use Rattle.echo_export.specs.HeaderText.{encoded_words, field_line, found_line, header_text, hex_byte, id_line, is_alphanumeric, is_field_byte, is_following, is_name_byte, is_plain_text, mail_bytes, mail_charset, name_line, name_text, next_room, next_text, is_within_word, q_byte, q_front, q_size, q_text, word_room};
 

@@ -1,5 +1,4 @@
-ghost use Rattle.std.specs.Prelude.{◌≡◌, ◌++◌, ◌∷◌, [], codes, OnOk};
-ghost use Rattle.std.specs.List.{flat_map};
+ghost use Rattle.std.specs.{Prelude.{◌≡◌, ◌++◌, ◌∷◌, [], codes, OnOk}, List.flat_map};
 ghost use Rattle.json.specs.Token.{key, string};
 ghost use Rattle.echo_addr.specs.Address.{net_node_text};
 ghost use Rattle.echo_text.specs.Lines.{lines};

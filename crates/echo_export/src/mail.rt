@@ -1,5 +1,4 @@
-ghost use Rattle.std.specs.Prelude.{◌≡◌, ◌==◌, ◌++◌, ◌<◌, IfOk, OnOk, codes, length, option_copied, slice_index};
-ghost use Rattle.std.specs.List.{flat_map, list_any};
+ghost use Rattle.std.specs.{Prelude.{◌≡◌, ◌==◌, ◌++◌, ◌<◌, IfOk, OnOk, codes, length, option_copied, slice_index}, List.{flat_map, list_any}};
 ghost use Rattle.echo_charset.specs.Losses as losses;
 ghost use Rattle.echo_export.specs.MailText.{are_digits_at, area_text, body_text, century, customary_line, date_line, echo_head, form_lines, found_lines, group_byte, has_day, has_time, head_text, id_lines, is_byte_at, is_customary, has_early_month, has_late_month, is_month, is_pair_at, pair_at, is_digit_at, all_bytes, name_bytes, mail_lost, mail_text, name_lines, seen_line, tag_line, way_lines, written_path};
 

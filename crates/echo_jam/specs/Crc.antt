@@ -1,7 +1,6 @@
 -- The CRC-32 by which JAM finds names and ids. It is taken of small letters, begins with all bits set, and is not inverted
 -- at the end.
-use Rattle.std.specs.Prelude.{ℕ, ◌/◌, ◌%◌, ◌==◌, bit_xor, List, [], ◌∷◌, map, if◌then◌else◌}
-use Rattle.std.specs.Char.{to_ascii_lowercase}
+use Rattle.std.specs.{Prelude.{ℕ, ◌/◌, ◌%◌, ◌==◌, bit_xor, List, [], ◌∷◌, map, if◌then◌else◌}, Char.to_ascii_lowercase}
 
 -- One bit: if the bit shifted out is 1, the polynomial (lowest bit first) is added.
 abbrev pub crc_bit : ℕ → ℕ

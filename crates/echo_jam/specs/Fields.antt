@@ -1,6 +1,5 @@
 -- The subfields of a JAM message (JAM-001), and its text.
-use Rattle.std.specs.Prelude.{ℕ, List, [], ◌∷◌, ◌++◌, length, drop, take, codes, if◌then◌else◌, nat_lt, sum_by, ◌||◌, Option, Some, None}
-use Rattle.std.specs.List.{flat_map}
+use Rattle.std.specs.{Prelude.{ℕ, List, [], ◌∷◌, ◌++◌, length, drop, take, codes, if◌then◌else◌, nat_lt, sum_by, ◌||◌, Option, Some, None}, List.flat_map}
 use Rattle.echo_addr.specs.{declared.address.Address.Address, Address.address_text, ShortLines.path_prefix, ShortLines.seen_prefix}
 use Rattle.echo_filed.specs.{Filed.Filed, Stored.long, Written.text_of}
 use Rattle.echo_packet.specs.Header.{word}

@@ -85,8 +85,7 @@ reported_active headers = long_at 12 headers
 
 -- Whether that count includes no entry of zeros at the end of the index.
 abbrev pub is_counted : List ℕ → List ℕ → Bool
-is_counted headers index =
-    entries_in index == length index / 8 || nat_le (reported_active headers) (active_in headers index (entries_in index))
+is_counted headers index = entries_in index == length index / 8 || nat_le (reported_active headers) (active_in headers index (entries_in index))
 
 -- Whether these are the headers and the index of a base: the mark, numbers that fit four bytes, and whole entries.
 abbrev pub is_base : List ℕ → List ℕ → ℕ → Bool
@@ -102,8 +101,7 @@ last_at headers texts place =
     else (if is_header headers texts place then Some (record { place = place; text = text_at headers place; size = text_size_at headers place }) else None)
 
 abbrev pub last_in : List ℕ → List ℕ → ℕ → Option Last
-last_in headers index texts =
-    if entries_in index == 0 then None else last_at headers texts (place_in index (entries_in index - 1))
+last_in headers index texts = if entries_in index == 0 then None else last_at headers texts (place_in index (entries_in index - 1))
 
 -- The state of a base; none if the files are not a base.
 abbrev pub standing_in : List ℕ → List ℕ → ℕ → Option Standing

@@ -22,8 +22,7 @@ abbrev pub sent_attribute : List ℕ → ℕ → Option ℕ
 sent_attribute headers at = if is_unsent headers at then Some (slice_index headers (at + 52) + 16) else None
 
 abbrev pub unsent_at : List ℕ → List ℕ → ℕ → ℕ → Option Last
-unsent_at headers index texts i =
-    if nat_lt i (entries_in index) && is_unsent headers (place_in index i) then last_at headers texts (place_in index i) else None
+unsent_at headers index texts i = if nat_lt i (entries_in index) && is_unsent headers (place_in index i) then last_at headers texts (place_in index i) else None
 
 -- The parts of a message with these subfields and this text: names, subject, the id of the message replied to, its own id,
 -- and its author's lines.
@@ -37,8 +36,7 @@ pub record IsJamDraft (fields text : List ℕ) (draft : JamDraft) : Type 0 where
 
 -- Whether the message at this header has the id, cut to the length in its subfield.
 abbrev pub has_id_at : List ℕ → ℕ → List ℕ → Bool
-has_id_at headers at id =
-    nat_le (at + 76) (length headers) && bytes_eq (field_or_none 4 (fields_at headers at)) (take most_of_id id)
+has_id_at headers at id = nat_le (at + 76) (length headers) && bytes_eq (field_or_none 4 (fields_at headers at)) (take most_of_id id)
 
 -- Whether a message of the first `n` entries has the id, and whether any has.
 abbrev pub has_id_among : List ℕ → List ℕ → List ℕ → ℕ → Bool

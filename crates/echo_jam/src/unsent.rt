@@ -1,7 +1,6 @@
 //! The messages of a JAM base that an editor wrote, read for posting, and the ids that a base has.
 ghost use Rattle.std.specs.Prelude.{◌≡◌, ◌+◌, ◌≤◌, ◌<◌, ◌^◌, IfOk, length};
-ghost use Rattle.echo_jam.specs.Unsent.{IsJamDraft, has_id_at, is_local_at, is_sent_at, is_unsent};
-ghost use Rattle.echo_jam.specs.Same.{fields_at};
+ghost use Rattle.echo_jam.specs.{Unsent.{IsJamDraft, has_id_at, is_local_at, is_sent_at, is_unsent}, Same.fields_at};
 ghost use Rattle.echo_jam.specs.Unsent as unsent;
 
 use crate::content::{MOST_OF_ID, front};

@@ -1,6 +1,5 @@
 -- The test of addresses passes if they are equal, and if their order ties.
-use Rattle.std.proofs.{Common.◌≡◌, Common.true, Common.arith, lemmas.Bool.and_from, lemmas.Bool.and_parts, lemmas.Bool.eqb-true, lemmas.Bool.eq-eqb}
-use Rattle.std.specs.Ordering.{is_eq}
+use Rattle.std.{proofs.{Common.{◌≡◌, true, arith}, lemmas.Bool.{and_from, and_parts, eqb-true, eq-eqb}}, specs.Ordering.is_eq}
 use Rattle.echo_addr.specs.declared.address.Address.{Address}
 use Rattle.echo_links.specs.{Links.same_address, Found.address_order}
 

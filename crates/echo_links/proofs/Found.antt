@@ -2,8 +2,7 @@
 use Rattle.std.proofs.Common.{◌≡◌, ◌<◌, ◌||◌, true, false, Bool, cond, List, [], ◌∷◌, ◌++◌, ℕ, length, refl, sym, ap, subst, ◌∙◌, Option, Some, None, inl, inr, ◌⊎◌, arith}
 use Rattle.std.proofs.lemmas.{Bool.cases_Bool, Bool.cond-false, Bool.cond-true, Bool.true≢false, List.get_or_append_left, List.length-append}
 use Rattle.std.proofs.{Math.Seq.get_or-append_seam, lemmas.List.Folds.find-append, lemmas.Map.Text.is_eq-slice_cmp, lemmas.Option.slice_get-get_or}
-use Rattle.std.specs.{Prelude.bytes_eq, Prelude.find, Prelude.is_some, Prelude.slice_get, declared.cmp.Ordering.Ordering}
-use Rattle.std.specs.declared.cmp.Ordering.TheVariants.{Less, Equal, Greater}
+use Rattle.std.specs.{Prelude.{bytes_eq, find, is_some, slice_get}, declared.cmp.Ordering.{Ordering, TheVariants.{Less, Equal, Greater}}}
 use Rattle.std.specs.{Ordering.is_eq, Ordering.match_ordering, Ordering.nat_cmp, Option.option_or, List.list_any, Map.lookup, BTreeMap.insert_entry}
 use Rattle.std.specs.Cmp.Lexicographic.{bytes_decides, slice_cmp}
 use Rattle.echo_addr.specs.declared.address.Address.{Address}
@@ -71,8 +70,7 @@ module _ {K : Type 0} (tag_of : K → List ℕ) where
   lookup_inserted tag (e ∷ es) k v = by (tag_order k e.0) refl (lookup_inserted tag es k v)
     where
       both : is_key tag k ≡ true → is_key tag e.0 ≡ true → is_eq (tag_order k e.0) ≡ true
-      both h g =
-          is_eq-slice_cmp (tag_of k) (tag_of e.0) ∙ (bytes_decides (tag_of k) (tag_of e.0)).1 (sym (is_key_exact tag k h) ∙ is_key_exact tag e.0 g)
+      both h g = is_eq-slice_cmp (tag_of k) (tag_of e.0) ∙ (bytes_decides (tag_of k) (tag_of e.0)).1 (sym (is_key_exact tag k h) ∙ is_key_exact tag e.0 g)
 
       by : (o : Ordering) → tag_order k e.0 ≡ o → lookup (is_key tag) (insert_entry tag_order es k v) ≡ cond (is_key tag k) (Some v) (lookup (is_key tag) es)
           → lookup (is_key tag) (match_ordering o ((k, v) ∷ e ∷ es) ((e.0, v) ∷ es) (e ∷ insert_entry tag_order es k v))

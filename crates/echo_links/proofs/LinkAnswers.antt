@@ -45,12 +45,10 @@ links_lines number before (word ∷ more) =
     (either_way (list_any (same_address (address_in word)) (map address_in before)) _ _ tt (links_lines number (word ∷ before) more))
 
 system_lines : (earlier : List (List ℕ)) (number : ℕ) (line : List ℕ) → IsOfLines (system_fault earlier number line)
-system_lines earlier number line =
-    either_way (list_any is_system_line earlier) _ _ tt (either_way (is_one_address (after_first_of (words line))) _ _ tt tt)
+system_lines earlier number line = either_way (list_any is_system_line earlier) _ _ tt (either_way (is_one_address (after_first_of (words line))) _ _ tt tt)
 
 name_lines : (earlier : List (List ℕ)) (number : ℕ) (line : List ℕ) → IsOfLines (name_fault earlier number line)
-name_lines earlier number line =
-    either_way (list_any is_name_line earlier) _ _ tt (either_way (nat_lt 40 (length (name_in line))) _ _ tt tt)
+name_lines earlier number line = either_way (list_any is_name_line earlier) _ _ tt (either_way (nat_lt 40 (length (name_in line))) _ _ tt tt)
 
 area_lines : (earlier : List (List ℕ)) (number : ℕ) (line : List ℕ) → IsOfLines (area_fault earlier number line)
 area_lines earlier number line = grind (arith, either_way, links_lines)

@@ -6,8 +6,7 @@ use Rattle.std.specs.List.{AllByRecursion, list_all, starts_with, list_any, onto
 use Rattle.std.specs.{Prelude.bytes_eq, Prelude.filter, Prelude.is_err, Prelude.is_ok, Result.result_ok}
 use Rattle.memchr.specs.Find.{IsFirstByte, is_byte}
 use Rattle.echo_addr.specs.{declared.address.Address.Address, declared.fault.AddrFault.AddrFault, Address.AddressOf, Address.address_in, Address.answer_of, Address.refusal}
-use Rattle.echo_addr.specs.Entries.{is_blank, tokens}
-use Rattle.echo_addr.proofs.{Outcomes.address_in-written, Outcomes.outcome-written, Pieces.HasFirst, Pieces.first_of_split}
+use Rattle.echo_addr.{specs.Entries.{is_blank, tokens}, proofs.{Outcomes.{address_in-written, outcome-written}, Pieces.{HasFirst, first_of_split}}}
 use Rattle.echo_text.specs.Lines.{is_feed, trimmed}
 use Rattle.echo_links.specs.LinkLines.{ended_pieces, file_lines, first_of, is_control_byte, is_skipped, is_space_or_tab, name_in, without_return, without_spaces, words}
 use Rattle.echo_links.specs.LinkReading.{IsWordOf}

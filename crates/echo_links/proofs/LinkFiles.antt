@@ -4,13 +4,11 @@ use Rattle.std.proofs.lemmas.Bool.{and_cases, cases_Bool, cond-false, cond-true,
 use Rattle.std.proofs.lemmas.List.{Elements.All-from_recursion, Kept.AllPairs-cons}
 use Rattle.std.specs.Prelude.{bytes_eq, filter, find, is_err, is_ok, option_map, unwrap_or, AllPairs}
 use Rattle.std.specs.{Option.option_or, Cmp.Lexicographic.bytes_decides, List.AllByRecursion, List.list_any}
-use Rattle.echo_addr.specs.Address.{IsAddress, address_in, answer_of, outcome, refusal}
-use Rattle.echo_addr.specs.declared.{address.Address.Address, fault.AddrFault.AddrFault}
+use Rattle.echo_addr.specs.{Address.{IsAddress, address_in, answer_of, outcome, refusal}, declared.{address.Address.Address, fault.AddrFault.AddrFault}}
 use Rattle.echo_addr.proofs.Outcomes.{AddressOf-from_refusal}
 use Rattle.echo_links.specs.declared.fault.LinkFault.TheVariants as fault
 use Rattle.echo_links.specs.LinkLines.{after_first_of, area_fault, area_in, file_fault, file_of, first_fault, first_of, is_area_line, is_control_byte, is_name_line, is_one_address, is_skipped, is_system_line, line_fault, links_fault, name_fault, name_in, system_fault, system_in, tag_in, words}
-use Rattle.echo_links.specs.Links.{Area, IsArea, IsFile, same_address}
-use Rattle.echo_links.proofs.Plain.{IsLineByte, Plain, plain_drop, plain_if, plain_line, plain_take}
+use Rattle.echo_links.{specs.Links.{Area, IsArea, IsFile, same_address}, proofs.Plain.{IsLineByte, Plain, plain_drop, plain_if, plain_line, plain_take}}
 use Rattle.echo_links.proofs.Addresses.{same_address_decides}
 
 ok_refusal : (o : Option AddrFault) (a : Address) → is_ok (answer_of o a) ≡ true → o ≡ None

@@ -1,7 +1,6 @@
 -- Reading the links of an AREA line one by one.
 use Rattle.std.proofs.Common.{◌≡◌, ℕ, ◌||◌, Bool, true, false, List, [], ◌∷◌, ◌++◌, map, refl, ap, ◌∙◌, Some, None, arith}
-use Rattle.std.proofs.lemmas.{Bool.cond-false, Bool.cond-true, List.append_assoc, List.append-nil}
-use Rattle.std.specs.{Prelude.is_err, List.list_any}
+use Rattle.std.{proofs.lemmas.{Bool.{cond-false, cond-true}, List.{append_assoc, append-nil}}, specs.{Prelude.is_err, List.list_any}}
 use Rattle.echo_addr.specs.{declared.address.Address.Address, Address.address_in, Address.outcome}
 use Rattle.echo_links.specs.declared.fault.LinkFault.TheVariants as fault
 use Rattle.echo_links.specs.{Links.same_address, LinkLines.links_fault, LinkReading.IsWordOf}

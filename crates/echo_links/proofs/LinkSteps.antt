@@ -1,8 +1,7 @@
 -- Reading a link file line by line.
 use Rattle.std.proofs.Common.{◌≡◌, ℕ, ◌+◌, ◌||◌, not, Bool, true, false, cond, List, [], ◌∷◌, ◌++◌, map, codes, refl, sym, ap, ◌∙◌, Option, Some, None, inl, inr, ◌⊎◌, arith}
-use Rattle.std.proofs.lemmas.{Bool.cases_Bool, Bool.cond-false, Bool.cond-true, List.append_assoc, List.append-nil}
+use Rattle.std.{proofs.lemmas.{Bool.{cases_Bool, cond-false, cond-true}, List.{append_assoc, append-nil}}, specs.{Option.option_or, List.list_any}}
 use Rattle.std.specs.Prelude.{bytes_eq, filter, find, is_some, option_map, unwrap_or}
-use Rattle.std.specs.{Option.option_or, List.list_any}
 use Rattle.echo_addr.specs.declared.address.Address.{Address}
 use Rattle.echo_links.specs.LinkLines.{area_in, file_fault, file_lines, file_of, first_fault, is_area_line, is_name_line, is_skipped, is_system_line, line_fault, name_in, no_address, system_in}
 use Rattle.echo_links.specs.LinkReading.{Adds, Holds, Knows, areas_of, is_area_known, kept, name_of, system_of}

@@ -1,7 +1,6 @@
 -- The content that each kind of line adds to a link file, and the reasons to refuse a line.
 use Rattle.std.proofs.Common.{◌≡◌, ℕ, not, Bool, true, false, cond, List, [], ◌∷◌, ◌++◌, length, map, drop, codes, refl, sym, ap, ◌∙◌, Option, Some, None, Result, Ok, Err, inr, ◌⊎◌, arith}
-use Rattle.std.proofs.lemmas.{Bool.cond-false, Bool.cond-true, Bool.not_from_true, List.append-nil}
-use Rattle.std.specs.Prelude.{bytes_eq, filter, find, is_some, option_map}
+use Rattle.std.{proofs.lemmas.{Bool.{cond-false, cond-true, not_from_true}, List.append-nil}, specs.Prelude.{bytes_eq, filter, find, is_some, option_map}}
 use Rattle.std.specs.{Option.option_or, Result.MatchResult, Cmp.Lexicographic.bytes_decides, List.list_any, List.position_or_len}
 use Rattle.echo_addr.specs.{declared.address.Address.Address, Address.address_in, Entries.is_blank, Entries.tokens}
 use Rattle.echo_text.specs.Lines.{is_tag, trimmed}

@@ -1,6 +1,5 @@
-use Rattle.std.proofs.Common.{◌≡◌, ◌≢◌, ℕ, zero, suc, ◌==◌, ◌||◌, true, List, [], ◌∷◌, take, drop}
+use Rattle.std.{proofs.Common.{◌≡◌, ◌≢◌, ℕ, zero, suc, ◌==◌, ◌||◌, true, List, [], ◌∷◌, take, drop}, specs.List.{AllByRecursion, list_all}}
 use Rattle.std.proofs.lemmas.{Bool.and_parts, Bool.eqb-false, Bool.not-true, Bool.or_parts, List.Elements.All-from_recursion}
-use Rattle.std.specs.List.{AllByRecursion, list_all}
 use Rattle.echo_text.specs.{Echo.IsLine, Ids.is_line_byte, Ids.is_zero}
 
 abbrev pub IsLineByte : ℕ → Type 0

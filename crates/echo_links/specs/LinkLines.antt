@@ -1,7 +1,6 @@
 -- Link files: lines of SYSTEM, NAME and AREA.
 use Rattle.std.specs.Prelude.{◌≡◌, ℕ, ◌+◌, ◌-◌, ◌==◌, ◌||◌, ◌&&◌, not, nat_eq, nat_lt, Bool, false, List, [], ◌∷◌, map, length, take, drop, codes, if◌then◌else◌, Option, Some, None, option_map, unwrap_or, Result, Ok, Err, is_ok, is_err, bytes_eq, filter, find}
-use Rattle.std.specs.List.{ends_with, list_all, list_any, prefix_len, slice_split, starts_with, suffix_len}
-use Rattle.std.specs.Option.{option_or}
+use Rattle.std.specs.{List.{ends_with, list_all, list_any, prefix_len, slice_split, starts_with, suffix_len}, Option.option_or}
 use Rattle.echo_addr.specs.{declared.address.Address.Address, Address.address_in, Address.outcome}
 use Rattle.echo_text.specs.Lines.{is_feed, is_tag}
 use Rattle.echo_links.specs.{declared.fault.LinkFault.LinkFault, Links.Area, Links.LinkFile, Links.same_address, Links.upper}
@@ -61,8 +60,7 @@ abbrev pub without_front_spaces : List ℕ → List ℕ
 without_front_spaces bytes = drop (prefix_len is_space_or_tab bytes) bytes
 
 abbrev pub without_spaces : List ℕ → List ℕ
-without_spaces bytes =
-    take (length (without_front_spaces bytes) - suffix_len is_space_or_tab (without_front_spaces bytes)) (without_front_spaces bytes)
+without_spaces bytes = take (length (without_front_spaces bytes) - suffix_len is_space_or_tab (without_front_spaces bytes)) (without_front_spaces bytes)
 
 abbrev pub system_in : List ℕ → Address
 system_in line = address_in (first_of (after_first_of (words line)))
@@ -127,8 +125,7 @@ line_fault earlier number line =
 -- The fault of the first faulty line. `number` is the number of the first of these lines, which follow the earlier ones.
 abbrev pub first_fault : List (List ℕ) → ℕ → List (List ℕ) → Option LinkFault
 first_fault earlier number [] = None
-first_fault earlier number (line ∷ later) =
-    option_or (line_fault earlier number line) (first_fault (line ∷ earlier) (number + 1) later)
+first_fault earlier number (line ∷ later) = option_or (line_fault earlier number line) (first_fault (line ∷ earlier) (number + 1) later)
 
 abbrev pub read_lines : List ℕ → List (List ℕ)
 read_lines bytes = filter (λ line. not (is_skipped line)) (file_lines bytes)

@@ -1,6 +1,5 @@
 -- The bytes that base64 encodes.
-use Rattle.std.proofs.Common.{◌≡◌, ℕ, List, Ok, Err, Some, None, ap}
-use Rattle.std.specs.Result.{result_ok}
+use Rattle.std.{proofs.Common.{◌≡◌, ℕ, List, Ok, Err, Some, None, ap}, specs.Result.result_ok}
 use Rattle.base64.specs.{GeneralPurpose.decode_of, GeneralPurpose.decoded_of, declared.engine.general_purpose.GeneralPurpose.GeneralPurpose, declared.decode.DecodeError.DecodeError}
 
 pub decoded_ok : (e : GeneralPurpose) (s b : List ℕ) → decode_of e s ≡ Ok b → decoded_of e s ≡ Some b

@@ -2,8 +2,7 @@
 use Rattle.std.proofs.Common.{◌≡◌, ℕ, suc, ◌+◌, ◌-◌, ◌&&◌, List, ◌∷◌, ◌++◌, Some, None, Bool, true, if◌then◌else◌, length, drop, take, ap, arith, ◌∙◌, length-append, nat_lt, nat_eq}
 use Rattle.std.proofs.{Math.Seq.drop-append_seam, Math.Seq.take-append_seam, lemmas.Grind.common_steps}
 use Rattle.std.specs.{Prelude.slice_range, List.ends_with, Cmp.Lexicographic.pointwise, Result.result_ok}
-use Rattle.hex.specs.Hex.{IsBytes, decode_of, encode_lower}
-use Rattle.hex.proofs.HexLemmas.{decode_of-encode_lower}
+use Rattle.hex.{specs.Hex.{IsBytes, decode_of, encode_lower}, proofs.HexLemmas.decode_of-encode_lower}
 use Rattle.echo_mail.specs.Exported.{digits_in, exported_id, id_back, is_exported, written_id}
 
 ends_at : (hx : List ℕ) → length (60 ∷ (hx ++ id_back)) - 14 ≡ 1 + length hx

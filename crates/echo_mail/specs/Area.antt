@@ -1,6 +1,5 @@
 -- The area that a mail names.
-use Rattle.std.specs.Prelude.{ℕ, ◌==◌, List, codes, Option, Some, None}
-use Rattle.std.specs.List.{before_first}
+use Rattle.std.specs.{Prelude.{ℕ, ◌==◌, List, codes, Option, Some, None}, List.before_first}
 use Rattle.echo_text.specs.Lines.{trimmed}
 use Rattle.echo_mail.specs.{declared.head.Field.Field, Body.value_in}
 

@@ -1,6 +1,5 @@
 -- The text of the body of a mail.
-use Rattle.std.specs.Prelude.{ℕ, false, find, List, codes, Option, Result, Ok, Err}
-use Rattle.std.specs.Option.{option_map}
+use Rattle.std.specs.{Prelude.{ℕ, false, find, List, codes, Option, Result, Ok, Err}, Option.option_map}
 use Rattle.echo_charset.specs.{declared.charset.Charset.Charset, Charset.decoded_text, Charset.is_called}
 use Rattle.echo_mail.specs.{declared.fault.MailFault.MailFault, declared.head.Field.Field, declared.mail.Mail.Mail, Content.charset_of, Ends.returned, Transfer.transferred}
 

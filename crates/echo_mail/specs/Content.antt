@@ -1,8 +1,7 @@
 -- The type and charset of a body (RFC 2045, 5).
 use Rattle.std.specs.Prelude.{ℕ, ◌==◌, ◌&&◌, not, Bool, List, [], ◌∷◌, codes, drop, slice_index, take, Option, Some, None, Result, Ok, Err, if◌then◌else◌}
 use Rattle.std.specs.{List.before_first, List.list_any, List.prefix_len, Int.is_in_range}
-use Rattle.echo_charset.specs.declared.charset.Charset.TheVariants.{Ascii, Cp437, Cp850, Cp866, Cp1251, Latin1}
-use Rattle.echo_charset.specs.{declared.charset.Charset.Charset, Charset.is_called, Charset.named}
+use Rattle.echo_charset.specs.{declared.charset.Charset.{TheVariants.{Ascii, Cp437, Cp850, Cp866, Cp1251, Latin1}, Charset}, Charset.{is_called, named}}
 use Rattle.echo_text.specs.Lines.{trimmed}
 use Rattle.echo_mail.specs.declared.fault.MailFault.{MailFault, TheVariants.Multipart, TheVariants.NotText, TheVariants.UnknownCharset}
 

@@ -5,8 +5,7 @@ use Rattle.base64.specs.{GeneralPurpose.decoded_of, Engines.standard}
 use Rattle.echo_addr.specs.Entries.{is_blank}
 use Rattle.echo_charset.specs.{declared.charset.Charset.Charset, declared.charset.Charset.TheVariants.Utf8, Charset.decoded_text, Charset.is_called}
 use Rattle.echo_text.specs.Lines.{lines}
-use Rattle.echo_mail.specs.declared.encoded.PrecedingText.{PrecedingText, TheVariants.Encoded, TheVariants.Nothing, TheVariants.Word}
-use Rattle.echo_mail.specs.{Content.known_charset, Quoted.unescaped}
+use Rattle.echo_mail.specs.{declared.encoded.PrecedingText.{PrecedingText, TheVariants.{Encoded, Nothing, Word}}, Content.known_charset, Quoted.unescaped}
 
 -- A `_` is a blank in the encoding Q.
 abbrev pub space_for : ℕ → ℕ
@@ -18,8 +17,7 @@ q_bytes text = Some (unescaped 0 (map space_for text))
 
 -- The decoded bytes of a text in the encoding Q or B.
 unfoldable pub word_bytes : List ℕ → List ℕ → Option (List ℕ)
-word_bytes encoding text =
-    if is_called encoding (codes "Q") then q_bytes text else if is_called encoding (codes "B") then decoded_of standard text else None
+word_bytes encoding text = if is_called encoding (codes "Q") then q_bytes text else if is_called encoding (codes "B") then decoded_of standard text else None
 
 abbrev pub encoded_text : Charset → List ℕ → Option (List ℕ)
 encoded_text charset bytes = Some (decoded_text charset bytes)
@@ -75,8 +73,7 @@ next_before before word (Some said) = Encoded
 -- Words with their blanks.
 abbrev pub words_text : PrecedingText → List (List ℕ) → List ℕ
 words_text before [] = []
-words_text before (word ∷ later) =
-    next_text before word (word_text word) ++ words_text (next_before before word (word_text word)) later
+words_text before (word ∷ later) = next_text before word (word_text word) ++ words_text (next_before before word (word_text word)) later
 
 -- A 0D for each blank, so that words become lines.
 abbrev pub return_for : ℕ → ℕ

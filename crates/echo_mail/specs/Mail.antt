@@ -27,8 +27,7 @@ body_of text = drop (head_len true text + 1) text
 
 -- The mail in a text with lines that end in 0D, or its fault.
 unfoldable pub mail_of : List ℕ → Result Mail MailFault
-mail_of text =
-    if list_all is_field (head_lines text) then Ok (record { fields = map field_of (head_lines text); body = body_of text }) else Err BadField
+mail_of text = if list_all is_field (head_lines text) then Ok (record { fields = map field_of (head_lines text); body = body_of text }) else Err BadField
 
 abbrev pub mail_in : List ℕ → Result Mail MailFault
 mail_in bytes = mail_of (without_from (returned false bytes))

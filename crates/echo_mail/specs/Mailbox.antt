@@ -14,8 +14,7 @@ is_open p = p.quoted || nat_lt 0 p.depth
 
 -- The place of the byte after another one. Comments nest, and a backslash makes the next byte an ordinary one.
 abbrev pub next_depth : QuotingState → ℕ → ℕ
-next_depth p b =
-    if p.escaped || p.quoted then p.depth else if b == 40 then p.depth + 1 else if b == 41 then p.depth - 1 else p.depth
+next_depth p b = if p.escaped || p.quoted then p.depth else if b == 40 then p.depth + 1 else if b == 41 then p.depth - 1 else p.depth
 
 abbrev pub next_quoted : QuotingState → ℕ → Bool
 next_quoted p b = if p.escaped || (nat_lt 0 p.depth || not (b == 34)) then p.quoted else not p.quoted

@@ -11,8 +11,7 @@ byte_of (Some high) (Some low) = Some (16 * high + low)
 
 -- The byte that `=` and two digits at the front encode.
 abbrev pub escaped : List ℕ → Option ℕ
-escaped bytes =
-    if slice_index bytes 0 == 61 then byte_of (hex_digit_value (slice_index bytes 1)) (hex_digit_value (slice_index bytes 2)) else None
+escaped bytes = if slice_index bytes 0 == 61 then byte_of (hex_digit_value (slice_index bytes 1)) (hex_digit_value (slice_index bytes 2)) else None
 
 -- The bytes that a byte adds: itself, or the byte that it and two digits encode. A digit of such a byte adds nothing.
 abbrev pub next_byte : ℕ → ℕ → Option ℕ → List ℕ
@@ -26,8 +25,7 @@ next_skip skip (Some said) = if nat_lt 0 skip then skip - 1 else 2
 -- The decoded bytes. The first `skip` bytes are digits of an earlier one. A `=` without digits is itself.
 abbrev pub unescaped : ℕ → List ℕ → List ℕ
 unescaped skip [] = []
-unescaped skip (b ∷ rest) =
-    next_byte skip b (escaped (b ∷ rest)) ++ unescaped (next_skip skip (escaped (b ∷ rest))) rest
+unescaped skip (b ∷ rest) = next_byte skip b (escaped (b ∷ rest)) ++ unescaped (next_skip skip (escaped (b ∷ rest))) rest
 
 abbrev pub is_soft : List ℕ → Bool
 is_soft line = slice_index line (length line - 1) == 61

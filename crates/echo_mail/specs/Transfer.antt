@@ -1,11 +1,9 @@
 -- The encodings of bodies (RFC 2045, 6).
-use Rattle.std.specs.Prelude.{ℕ, ◌==◌, ◌||◌, Bool, List, codes, filter, Option, Some, None, Result, Ok, Err, if◌then◌else◌}
-use Rattle.std.specs.Int.{is_in_range}
+use Rattle.std.specs.{Prelude.{ℕ, ◌==◌, ◌||◌, Bool, List, codes, filter, Option, Some, None, Result, Ok, Err, if◌then◌else◌}, Int.is_in_range}
 use Rattle.base64.specs.{GeneralPurpose.decoded_of, Engines.standard}
 use Rattle.echo_charset.specs.Charset.{is_called}
 use Rattle.echo_mail.specs.declared.{fault.MailFault.MailFault, fault.MailFault.TheVariants.BadBase64, fault.MailFault.TheVariants.UnknownEncoding, transfer.Encoding.Encoding}
-use Rattle.echo_mail.specs.declared.transfer.Encoding.TheVariants.{Base64, Plain, QuotedPrintable}
-use Rattle.echo_mail.specs.Quoted.{quoted_printable}
+use Rattle.echo_mail.specs.{declared.transfer.Encoding.TheVariants.{Base64, Plain, QuotedPrintable}, Quoted.quoted_printable}
 
 -- The encoding with this name, in letters of either case, or 7bit without a name.
 unfoldable pub encoding_of : Option (List ℕ) → Option Encoding
@@ -18,8 +16,7 @@ encoding_of (Some word) =
 
 -- A letter, a digit, `+`, `/` or `=`. A base64 body ignores other bytes (6.8).
 abbrev pub is_base64_byte : ℕ → Bool
-is_base64_byte b =
-    (is_in_range 48 57 b || (is_in_range 65 90 b || is_in_range 97 122 b)) || ((b == 43) || ((b == 47) || (b == 61)))
+is_base64_byte b = (is_in_range 48 57 b || (is_in_range 65 90 b || is_in_range 97 122 b)) || ((b == 43) || ((b == 47) || (b == 61)))
 
 abbrev pub bytes_or_fault : Option (List ℕ) → Result (List ℕ) MailFault
 bytes_or_fault None = Err BadBase64

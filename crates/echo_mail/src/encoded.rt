@@ -1,6 +1,5 @@
 //! Encoded words of header fields (RFC 2047).
-ghost use Rattle.std.specs.Prelude.{◌≡◌, ◌++◌, ◌≤◌, ◌==◌, length, map, not, string_bytes, take_while, IfOk, OnOk};
-ghost use Rattle.std.specs.List.{after_first, before_first};
+ghost use Rattle.std.specs.{Prelude.{◌≡◌, ◌++◌, ◌≤◌, ◌==◌, length, map, not, string_bytes, take_while, IfOk, OnOk}, List.{after_first, before_first}};
 ghost use Rattle.echo_text.specs.Lines.{lines};
 ghost use Rattle.echo_mail.specs.Encoded.{coded, cut_at_blanks, decoded_words, encoded_text, gap, inner_text, next_before, next_text, q_bytes, return_for, space_for, word_bytes, word_text, words_text};
 ghost use Rattle.echo_mail.specs.declared.encoded.PrecedingText.TheVariants.{Nothing};

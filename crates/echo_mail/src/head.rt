@@ -1,6 +1,5 @@
 //! The header fields of a mail.
-ghost use Rattle.std.specs.Prelude.{◌≡◌, ◌≤◌, length, map, take_while, true, IfOk};
-ghost use Rattle.std.specs.List.{list_all};
+ghost use Rattle.std.specs.{Prelude.{◌≡◌, ◌≤◌, length, map, take_while, true, IfOk}, List.list_all};
 ghost use Rattle.echo_text.specs.Lines.{lines};
 ghost use Rattle.echo_mail.specs.Head.{field_of, head_len, is_field, is_folded, is_name_byte, name_len, unfolded};
 

@@ -2,8 +2,7 @@
 ghost use Rattle.std.specs.Prelude.{◌≡◌, IfOk, filter, option_copied};
 ghost use Rattle.base64.specs.{GeneralPurpose.decoded_of, Engines.standard};
 ghost use Rattle.echo_charset.specs.Charset as charsets;
-ghost use Rattle.echo_mail.specs.Transfer.{base64_body, encoded_body, encoding_of, is_base64_byte, transferred};
-ghost use Rattle.echo_mail.specs.Mail.{Gives};
+ghost use Rattle.echo_mail.specs.{Transfer.{base64_body, encoded_body, encoding_of, is_base64_byte, transferred}, Mail.Gives};
 ghost use Rattle.echo_mail.specs.Quoted as quoted;
 
 use crate::fault::MailFault;

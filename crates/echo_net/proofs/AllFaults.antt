@@ -5,9 +5,8 @@ use Rattle.std.specs.{Prelude.Contains, Cmp.both_ways, List.list_any, List.Sorte
 use Rattle.echo_addr.specs.declared.address.Address.{Address}
 use Rattle.echo_links.specs.Links.{LinkFile, has_area}
 use Rattle.model_graph.proofs.Members.{Among-from_Contains, Contains-from_Among}
-use Rattle.model_run.proofs.Lists.{Among-filter_from, Among-filter_to}
+use Rattle.model_run.{proofs.Lists.{Among-filter_from, Among-filter_to}, specs.Tidy.{carries, lists}}
 use Rattle.echo_filed.specs.Sets.{address_before}
-use Rattle.model_run.specs.Tidy.{carries, lists}
 use Rattle.echo_net.specs.declared.verdict.NetFault.TheVariants.{NoSuchArea, TwoFiles, SelfLink, Unknown, OneSided, SameNetNode, Apart, Loop}
 use Rattle.echo_net.specs.AllFaults.{AddsLinkFaults, AddsTwoFiles, AppliesTo, AreAllFaults, AreFurther, AreLinkFaults, fault_where, is_one_sided, is_self_link, is_unknown}
 use Rattle.echo_net.specs.Faults.{AllAreAnswered, AllAreKnown, HaveOneFileEach, IsFirstFault, NoneListsItself}

@@ -8,8 +8,7 @@ use Rattle.echo_addr.specs.declared.address.Address.{Address}
 use Rattle.model_graph.specs.Walk.{Among, Connected, Different, IsAt, Reaches}
 use Rattle.model_graph.specs.{Cycle.IsCycle, Cycle.Polygons, Loops.NamedLoop, Reach.FirstUnreached, Rows.IsAscending, Rows.IsGraph, Rows.linked}
 use Rattle.model_graph.proofs.{Members.Among-from_Contains, Members.Contains-from_Among, Members.Among-get_or, Members.walk_links, Renaming.NamedLoop-renamed, Rows.linked_within}
-use Rattle.echo_links.specs.Links.{LinkFile, area_of, has_area, is_link, links_of, same_address}
-use Rattle.echo_links.specs.LinkLines.{no_address}
+use Rattle.echo_links.specs.{Links.{LinkFile, area_of, has_area, is_link, links_of, same_address}, LinkLines.no_address}
 use Rattle.echo_filed.specs.Sets.{address_before}
 use Rattle.model_run.specs.Tidy.{carries, lists, Carries, Joined, Tidy}
 use Rattle.model_run.proofs.Lists.{Among-filter_from, Among-filter_to, any-from, any-to, Among-map_to, Among-map_from, Among-flat_map_from, Among-flat_map_to}

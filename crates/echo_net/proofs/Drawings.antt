@@ -7,8 +7,7 @@ use Rattle.echo_addr.specs.declared.address.Address.{Address}
 use Rattle.echo_links.specs.Links.{LinkFile, same_address, has_area}
 use Rattle.echo_filed.specs.Sets.{address_before}
 use Rattle.model_graph.proofs.Members.{Among-from_Contains, Contains-from_Among}
-use Rattle.model_run.proofs.Lists.{any-from, any-to, Among-map_to, Among-map_from}
-use Rattle.model_run.specs.Tidy.{carries, lists, Carries}
+use Rattle.model_run.{proofs.Lists.{any-from, any-to, Among-map_to, Among-map_from}, specs.Tidy.{carries, lists, Carries}}
 use Rattle.echo_net.specs.Drawn.{AreLinksInOrder, IsDrawing, IsDrawn, IsDrawnPair, back, has_address, has_link, link_drawn, link_from, loop_links, loop_named, same_link, steps_from, system_drawn, system_from, systems_named, upward}
 use Rattle.echo_net.specs.{declared.drawing.Drawing.Drawing, declared.link.Link.Link, declared.verdict.Verdict.Verdict, Nets.link, Nets.systems, declared.verdict.NetFault.NetFault}
 use Rattle.echo_net.specs.{AllFaults.AppliesTo, AllFaults.AreLinkFaults, AllFaults.fault_of, AllFaults.fault_where, Faults.AreSoundLinks}
@@ -67,12 +66,10 @@ held_again {X} before after all is same x = (
 
 -- lists with the same addresses have the same test
 pub same_held : (xs ys : List Address) → ((a : Address) → Contains xs a ↔ Contains ys a) → (a : Address) → has_address xs a ≡ has_address ys a
-same_held xs ys same a =
-    address_reported ys a (has_address xs a) (λ h. (same a).0 ((address_held xs a).0 h), λ there. (address_held xs a).1 ((same a).1 there))
+same_held xs ys same a = address_reported ys a (has_address xs a) (λ h. (same a).0 ((address_held xs a).0 h), λ there. (address_held xs a).1 ((same a).1 there))
 
 pub same_links_held : (xs ys : List Link) → ((l : Link) → Contains xs l ↔ Contains ys l) → (l : Link) → has_link xs l ≡ has_link ys l
-same_links_held xs ys same l =
-    link_reported ys l (has_link xs l) (λ h. (same l).0 ((link_held xs l).0 h), λ there. (link_held xs l).1 ((same l).1 there))
+same_links_held xs ys same l = link_reported ys l (has_link xs l) (λ h. (same l).0 ((link_held xs l).0 h), λ there. (link_held xs l).1 ((same l).1 there))
 
 -- the test of the carriers is that of the files
 pub carriers_held : (files : List LinkFile) (tag : List ℕ) (all : List Address) → ((a : Address) → Contains all a ↔ IsTrue (carries files tag a)) → (a : Address)

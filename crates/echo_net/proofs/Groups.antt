@@ -1,21 +1,18 @@
 -- The parts of an area, as groups of carriers with one label.
 use Rattle.std.proofs.Common.{◌≡◌, ◌<◌, ◌+◌, ◌==◌, ◌↔◌, inl, inr, ℕ, Bool, true, IsTrue, if◌then◌else◌, List, [], ◌∷◌, ◌++◌, length, filter, take, get_or, refl, sym, ap, subst, ◌∙◌, arith}
-use Rattle.std.specs.{Prelude.Contains, List.remove, List.Sorted.IsStrictlySortedBy}
+use Rattle.std.specs.{Prelude.Contains, List.{remove, Sorted.IsStrictlySortedBy}, Ordering.is_lt}
 use Rattle.std.proofs.lemmas.Bool.{and_from, and_parts, cases_Bool, cases_lt, eq-eqb, eqb-true}
 use Rattle.std.proofs.lemmas.List.{get_or_append_left, get_or_default, get_or_push, length-append, take_more}
 use Rattle.std.proofs.lemmas.List.Elements.{Contains-append_left, Contains-get_or, Contains-push, Contains-push_cases}
 use Rattle.echo_addr.specs.declared.address.Address.{Address}
 use Rattle.echo_links.specs.{LinkLines.no_address, Links.LinkFile}
 use Rattle.echo_filed.specs.Sets.{address_before}
-use Rattle.model_graph.specs.{Walk.IsAt, Walk.Reaches, Walk.Walk}
-use Rattle.model_graph.proofs.Members.{Among-from_Contains, Contains-from_Among, Reaches-trans}
-use Rattle.model_run.proofs.{Lists.Among-filter_from, Lists.Among-filter_to, Places.lister-carries}
-use Rattle.model_run.specs.Tidy.{carries, lists}
+use Rattle.model_graph.{specs.Walk.{IsAt, Reaches, Walk}, proofs.Members.{Among-from_Contains, Contains-from_Among, Reaches-trans}}
+use Rattle.model_run.{proofs.{Lists.{Among-filter_from, Among-filter_to}, Places.lister-carries}, specs.Tidy.{carries, lists}}
 use Rattle.echo_net.specs.{declared.link.Link.Link, Drawn.back, Drawn.has_link, Faults.AreInOrder, Nets.link, Rows.system_at}
 use Rattle.echo_net.specs.Parts.{AreBothWays, AreGrouped, AreLabels, AreOthers, ArePaired, AreParts, AreSettled, IsGroup, IsLargestAt, JoinsEnds, JoinsLabels, linked_both, relabeled}
 use Rattle.echo_net.proofs.{Drawings.links_held, Owned.before_back, Owned.in_order_from_sorted}
 use Rattle.echo_net.proofs.Orders.{address_order, address_total, at_place, before_is, earlier_less, not_before_itself, one_place}
-use Rattle.std.specs.Ordering.{is_lt}
 
 -- parts without the first of the largest
 pub others_left : (parts others : List (List Address)) (k : ℕ) → (0 < length parts → IsLargestAt parts k) → k < length parts → others ≡ remove parts k → AreOthers parts others
@@ -390,5 +387,4 @@ labels_below linked carriers labels are i inside = (let low = are.not_after i in
 -- a system that another lists, and that lists it, is a carrier
 pub ends_carry : (files : List LinkFile) (tag : List ℕ) (carriers : List Address) → ((a : Address) → Contains carriers a ↔ IsTrue (carries files tag a)) → (a b : Address)
     → IsTrue (linked_both files tag a b) → Contains carriers b
-ends_carry files tag carriers members a b h =
-    (members b).1 (lister-carries files tag b a (and_parts (lists files tag a b) (lists files tag b a) h).1)
+ends_carry files tag carriers members a b h = (members b).1 (lister-carries files tag b a (and_parts (lists files tag a b) (lists files tag b a) h).1)

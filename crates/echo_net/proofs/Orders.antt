@@ -1,9 +1,8 @@
 -- The orders of addresses, of links, and of items sorted by them.
 use Rattle.std.proofs.Common.{◌≡◌, ◌<◌, ◌==◌, ◌&&◌, ◌||◌, nat_lt, ℕ, Bool, true, false, cond, refl, sym, ap, subst, ◌∙◌, inl, inr, ◌⊎◌, ◌≤◌, ◌+◌, List, length, get_or, Result, Ok, Err, arith, ◌↔◌, Option, Some, None, MatchOption, [], ◌∷◌, ◌++◌}
-use Rattle.std.proofs.lemmas.Bool.{and_from, and_parts, cond-true, eq-eqb, eqb-true, lt-ltb, cases_lt}
+use Rattle.std.proofs.lemmas.{Bool.{and_from, and_parts, cond-true, eq-eqb, eqb-true, lt-ltb, cases_lt}, List.Quantifiers.all_pairs_push}
 use Rattle.std.proofs.lemmas.{Cmp.ranked, Cmp.tied_itself, List.get_or_default, List.append-nil, List.Sorted.ranks_by, List.Sorted.searchable_from_sorted, List.Sorted.sorted_far}
 use Rattle.std.proofs.lemmas.{Map.Keys.Less-from_sorted, List.Elements.Contains-append_left, List.Elements.Contains-get_or, List.Elements.Contains-push, List.Elements.Contains-push_cases}
-use Rattle.std.proofs.lemmas.List.Quantifiers.{all_pairs_push}
 use Rattle.std.specs.Ordering.{MatchOrdering, is_eq, is_lt, nat_cmp, ordering_reverse, ordering_then, is_gt}
 use Rattle.std.specs.declared.cmp.Ordering.{Ordering, TheVariants.Less, TheVariants.Equal, TheVariants.Greater}
 use Rattle.std.specs.{Cmp.IsTotalOrder, Cmp.nat_cmp_total, Cmp.on_total, Cmp.then_total, Prelude.Contains, Prelude.AllPairs, Option.is_some, Result.result_ok}
@@ -46,8 +45,7 @@ pub owner_total : IsTotalOrder owner_order
 owner_total = then_total (on_total (λ (o : Owner). o.system) address_total) (on_total (λ (o : Owner). o.file) nat_cmp_total)
 
 pub neighbour_total : IsTotalOrder neighbour_order
-neighbour_total =
-    then_total (on_total (λ (n : Neighbour). n.net_node) net_node_total) (on_total (λ (n : Neighbour). n.system) address_total)
+neighbour_total = then_total (on_total (λ (n : Neighbour). n.net_node) net_node_total) (on_total (λ (n : Neighbour). n.system) address_total)
 
 -- two comparisons, one after the other
 pub then_equal : (o p : Ordering) → ordering_then o p ≡ Equal → (o ≡ Equal) × (p ≡ Equal)
@@ -208,8 +206,7 @@ pub one_more : {X : Type 0} (ls : List X) (Holds : X → Type 0) (i : ℕ) (e : 
     ((k : ℕ) (d : X) → k < i → Holds (get_or ls k d)) → (k : ℕ) (d : X) → k < i + 1 → Holds (get_or ls k d)
 one_more ls Holds i e inside here below k d lt = grind (arith, cases_lt, get_or_default, get_or)
 
-pub all_there : (ls : List Link) (Holds : Link → Type 0) → ((k : ℕ) (d : Link) → k < length ls → Holds (get_or ls k d)) →
-    (l : Link) → Contains ls l → Holds l
+pub all_there : (ls : List Link) (Holds : Link → Type 0) → ((k : ℕ) (d : Link) → k < length ls → Holds (get_or ls k d)) → (l : Link) → Contains ls l → Holds l
 all_there ls Holds all l there = subst Holds there.2 (all there.0 l there.1)
 
 -- Lists in order of a key and then of a value: of two items with one key, the first is next to another with this key.

@@ -3,22 +3,19 @@ use Rattle.std.proofs.Common.{◌≡◌, ◌<◌, ◌+◌, ◌&&◌, ◌↔◌, 
 use Rattle.std.proofs.lemmas.Bool.{cases_lt, or_parts, and_from, and_parts, cases_Bool, lt-ltb, ltb-true, not-true}
 use Rattle.std.proofs.lemmas.List.{get_or_default, get_or-drop, get_or-take, get_or_at, get_or_append_left, length-drop, length-take, length-append}
 use Rattle.std.proofs.lemmas.{Cmp.tied_itself, List.Elements.Contains-append_left, List.Elements.Contains-push, List.Elements.Contains-push_cases, List.Elements.Contains-get_or}
-use Rattle.std.proofs.lemmas.{List.Sums.position_or_len_is, Map.Keys.below_from_sorted}
+use Rattle.std.{proofs.lemmas.{List.Sums.position_or_len_is, Map.Keys.below_from_sorted}, specs.List.{list_any, position_or_len, AllZip}}
 use Rattle.std.specs.{Prelude.Contains, Prelude.slice_get, List.Sorted.IsStrictlySortedBy, List.Sorted.IsPartitionedBy, List.Sorted.IsPartitionPoint}
 use Rattle.std.specs.{Ordering.nat_cmp, Ordering.ordering_then, Ordering.is_lt, Ordering.ordering_reverse, declared.cmp.Ordering.Ordering, declared.cmp.Ordering.TheVariants.Less}
-use Rattle.std.specs.List.{list_any, position_or_len, AllZip}
 use Rattle.echo_addr.specs.declared.address.Address.{Address}
 use Rattle.echo_links.specs.{Links.same_address, Links.LinkFile, LinkLines.no_address}
 use Rattle.echo_filed.specs.Sets.{address_before}
 use Rattle.echo_net.specs.Faults.{AllAreAnswered, AllAreKnown, AreInOrder, NoneListsItself, numbered}
 use Rattle.echo_net.specs.{declared.link.Link.Link, declared.owners.Owner.Owner, Firsts.IsSmallest, Firsts.OccursTwice, Nets.link, Pairs.IsShared, Rows.system_at, Rows.IsRow}
-use Rattle.model_graph.specs.Walk.{Different, IsAt, Connected, Reaches, Simple, Among}
+use Rattle.model_graph.{specs.Walk.{Different, IsAt, Connected, Reaches, Simple, Among}, proofs.Rows.{holds_at, place_of}}
 use Rattle.model_graph.specs.{Cycle.IsCycle, Cycle.Polygons, Loops.HasUnlinked, Renaming.IsRenaming, Renaming.KeepsOrder, Rows.IsAscending, Rows.links_at}
 use Rattle.model_graph.proofs.{Members.Among-index, Members.Among-from_Contains, Members.Contains-from_Among, Renaming.IsRenaming-swap, Renaming.Polygons-renamed, Renaming.Reaches-renamed}
-use Rattle.model_graph.proofs.Rows.{holds_at, place_of}
 use Rattle.echo_net.proofs.Orders.{address_exact, address_order, address_total, link_order, link_total, nat_cmp_less, nat_less, owner_order, owner_total, pair_before_is, then_less, at_place, earlier_from_less, earlier_less, later_not_before, next_alike, before_is, before_less, not_before_itself, same_exact, same_itself, before_again, same_where_neither, not_gt, not_lt, one_place, gt_first}
-use Rattle.model_run.specs.Tidy.{Carries, lists}
-use Rattle.model_run.proofs.Places.{lister-carries as lister_carries}
+use Rattle.model_run.{specs.Tidy.{Carries, lists}, proofs.Places.lister-carries as lister_carries}
 
 abbrev pub owner : Address → ℕ → Owner
 owner a n = record { system = a; file = n }

@@ -4,9 +4,8 @@ use Rattle.std.proofs.lemmas.{Bool.cases_lt, Cmp.tied_itself, Cmp.upto, List.get
 use Rattle.std.specs.{Prelude.Contains, Prelude.slice_get, List.Sorted.IsStrictlySortedBy, Ordering.is_gt, Ordering.ordering_then, declared.cmp.Ordering.Ordering}
 use Rattle.std.specs.declared.cmp.Ordering.TheVariants.{Less, Equal}
 use Rattle.echo_addr.specs.{declared.address.Address.Address, Address.net_node_of}
-use Rattle.model_graph.proofs.Members.{Among-from_Contains, Contains-from_Among}
+use Rattle.model_graph.{proofs.Members.{Among-from_Contains, Contains-from_Among}, specs.Walk.IsAt}
 use Rattle.echo_net.specs.{declared.link.Link.Link, declared.same_net_node.Neighbour.Neighbour, Firsts.HasTwin, Firsts.IsSmallestPair, Nets.link, Pairs.AreAlike, Pairs.IsTwin, Pairs.neighbour_of}
-use Rattle.model_graph.specs.Walk.{IsAt}
 use Rattle.echo_net.proofs.Orders.{address_order, address_total, before_is, before_less, link_order, link_total, neighbour_order, neighbour_total, net_node_exact, net_node_order, net_node_total, pair_before_is, at_place, earlier_from_less, earlier_less, later_not_before, not_gt, not_lt, key_between, next_alike}
 use Rattle.model_run.proofs.Lists.{Among-map_to, Among-map_from}
 

@@ -1,6 +1,5 @@
 -- All faults of an area, in the order in which a verdict prefers them.
-use Rattle.std.specs.Prelude.{◌≡◌, ◌++◌, ◌&&◌, ℕ, Bool, true, false, IsTrue, List, [], ◌∷◌, Contains, filter, map, not}
-use Rattle.std.specs.List.{list_any}
+use Rattle.std.specs.{Prelude.{◌≡◌, ◌++◌, ◌&&◌, ℕ, Bool, true, false, IsTrue, List, [], ◌∷◌, Contains, filter, map, not}, List.list_any}
 use Rattle.echo_addr.specs.declared.address.Address.{Address}
 use Rattle.echo_links.specs.Links.{LinkFile, has_area, same_address}
 use Rattle.model_run.specs.Tidy.{Carries, lists}

@@ -69,8 +69,7 @@ IsDrawn files tag a = Carries files tag a ⊎ ((b : Address) × IsTrue (lists fi
 
 -- Two addresses, the smaller first, and one lists the other.
 abbrev pub IsDrawnPair : List LinkFile → List ℕ → Link → Type 0
-IsDrawnPair files tag l =
-    (address_before l.to l.from ≡ false) × (IsTrue (lists files tag l.from l.to) ⊎ IsTrue (lists files tag l.to l.from))
+IsDrawnPair files tag l = (address_before l.to l.from ≡ false) × (IsTrue (lists files tag l.from l.to) ⊎ IsTrue (lists files tag l.to l.from))
 
 -- Links in ascending order, each once, with these members.
 pub record AreLinksInOrder (IsMember : Link → Type 0) (all : List Link) : Type 0 where
@@ -80,8 +79,7 @@ pub record AreLinksInOrder (IsMember : Link → Type 0) (all : List Link) : Type
 
 -- The drawn system.
 abbrev pub system_drawn : List LinkFile → List ℕ → Verdict → Address → DrawnSystem
-system_drawn files tag verdict a =
-    record { system = a; carries = carries files tag a; mark = mark_of (loop_named verdict) (systems_named verdict) a }
+system_drawn files tag verdict a = record { system = a; carries = carries files tag a; mark = mark_of (loop_named verdict) (systems_named verdict) a }
 
 -- The drawn pair of systems.
 abbrev pub link_drawn : List LinkFile → List ℕ → Verdict → Link → DrawnLink

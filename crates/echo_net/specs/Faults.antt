@@ -1,6 +1,5 @@
 -- The fault of an area of a net: the first clause that fails, and its addresses.
-use Rattle.std.specs.Prelude.{◌≡◌, ◌<◌, ◌&&◌, ◌↔◌, ⊤, nat_lt, ℕ, Bool, true, IsTrue, List, Option, MatchOption, Contains, length}
-use Rattle.std.specs.List.{list_any}
+use Rattle.std.specs.{Prelude.{◌≡◌, ◌<◌, ◌&&◌, ◌↔◌, ⊤, nat_lt, ℕ, Bool, true, IsTrue, List, Option, MatchOption, Contains, length}, List.list_any}
 use Rattle.echo_addr.specs.{declared.address.Address.Address, Address.net_node_of}
 use Rattle.model_graph.specs.{Walk.Different, Walk.Reaches, Loops.NamedLoopBy}
 use Rattle.echo_links.specs.Links.{LinkFile, has_area}
@@ -65,8 +64,7 @@ IsNamedLoop files tag loop = NamedLoopBy (λ a b. address_before a b ≡ true) (
 abbrev pub IsFirstFault : List LinkFile → List ℕ → NetFault → Type 0
 IsFirstFault files tag NoSuchArea = ¬ IsCarried files tag
 IsFirstFault files tag (TwoFiles a) = IsCarried files tag × IsSmallest (OccursTwice (systems files)) a
-IsFirstFault files tag (SelfLink a) =
-    IsCarried files tag × HaveOneFileEach files × IsSmallest (λ b. IsTrue (lists files tag b b)) a
+IsFirstFault files tag (SelfLink a) = IsCarried files tag × HaveOneFileEach files × IsSmallest (λ b. IsTrue (lists files tag b b)) a
 IsFirstFault files tag (Unknown a b) =
     IsCarried files tag × HaveOneFileEach files × NoneListsItself files tag ×
     IsSmallestPair (λ c d. IsTrue (lists files tag c d) × (¬ Carries files tag d)) a b

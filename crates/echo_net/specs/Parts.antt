@@ -79,8 +79,7 @@ JoinsEnds carriers l before after =
 
 -- A carrier before this place, after that of its label.
 abbrev pub ArePaired : List Address → List ℕ → ℕ → Link → Type 0
-ArePaired carriers labels count l =
-    (i : ℕ) × (i < count) × (l.from ≡ system_at carriers (slice_index labels i)) × (l.to ≡ system_at carriers i)
+ArePaired carriers labels count l = (i : ℕ) × (i < count) × (l.from ≡ system_at carriers (slice_index labels i)) × (l.to ≡ system_at carriers i)
 
 -- The carriers with this label, ascending.
 abbrev pub IsGroup : List Address → List ℕ → ℕ → List Address → Type 0

@@ -1,8 +1,7 @@
 -- The printed form of a fault.
 use Rattle.std.specs.{Prelude.ℕ, Prelude.List, Prelude.◌++◌, Prelude.codes, List.flat_map}
 use Rattle.echo_addr.specs.{declared.address.Address.Address, Address.address_text}
-use Rattle.echo_net.specs.declared.verdict.NetFault.TheVariants.{NoSuchArea, TwoFiles, SelfLink, Unknown, OneSided, SameNetNode, Apart, Loop}
-use Rattle.echo_net.specs.declared.verdict.NetFault.{NetFault}
+use Rattle.echo_net.specs.declared.verdict.NetFault.{TheVariants.{NoSuchArea, TwoFiles, SelfLink, Unknown, OneSided, SameNetNode, Apart, Loop}, NetFault}
 
 -- An address after a blank.
 abbrev pub after_blank : Address → List ℕ

@@ -1,7 +1,6 @@
 //! An area in the link files, each looked up once.
 
-ghost use Rattle.std.specs.Prelude.{◌≡◌, ◌++◌, ◌∷◌, [], ◌↔◌, IsTrue, IfOk, OnOk, Contains};
-ghost use Rattle.std.specs.List.{All, count_by, Sorted.IsStrictlySortedBy};
+ghost use Rattle.std.specs.{Prelude.{◌≡◌, ◌++◌, ◌∷◌, [], ◌↔◌, IsTrue, IfOk, OnOk, Contains}, List.{All, count_by, Sorted.IsStrictlySortedBy}};
 ghost use Rattle.echo_addr.specs.declared.address.Address.{Address};
 ghost use Rattle.echo_filed.specs.Sets.{address_before};
 ghost use Rattle.echo_links.specs.Links.{IsFile};

@@ -1,7 +1,6 @@
 //! The systems that carry an area, and their links.
 
-ghost use Rattle.std.specs.Prelude.{◌≡◌, ◌++◌, ◌↔◌, IsTrue, IfOk, OnOk, Contains, map};
-ghost use Rattle.std.specs.List.{All, Sorted.IsStrictlySortedBy};
+ghost use Rattle.std.specs.{Prelude.{◌≡◌, ◌++◌, ◌↔◌, IsTrue, IfOk, OnOk, Contains, map}, List.{All, Sorted.IsStrictlySortedBy}};
 ghost use Rattle.echo_addr.specs.declared.address.Address.{Address};
 ghost use Rattle.echo_links.specs.Links.{IsFile};
 ghost use Rattle.echo_filed.specs.Sets.{address_before};

@@ -2,8 +2,7 @@
 
 ghost use Rattle.std.specs.Prelude.{◌≡◌, ◌↔◌, IfOk};
 ghost use Rattle.model_run.specs.{AnyState.NewMessagesAreInOrder, Tidy.Tidy};
-ghost use Rattle.echo_net.specs.Faults.{IfNo, IfYes, IsFirstFault, IsSharedSystem, IsYes};
-ghost use Rattle.echo_net.specs.Nets.{carrier_count, linked_pairs};
+ghost use Rattle.echo_net.specs.{Faults.{IfNo, IfYes, IsFirstFault, IsSharedSystem, IsYes}, Nets.{carrier_count, linked_pairs}};
 
 use crate::area::{AreaGraph, collect_area};
 use crate::carriers::systems;

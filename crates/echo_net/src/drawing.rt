@@ -1,7 +1,6 @@
 //! The drawing of an area: its systems and links, and their faults.
 
-ghost use Rattle.std.specs.Prelude.{◌≡◌, ◌++◌, ◌↔◌, IfOk, Contains, map};
-ghost use Rattle.std.specs.List.Sorted.{IsStrictlySortedBy};
+ghost use Rattle.std.specs.{Prelude.{◌≡◌, ◌++◌, ◌↔◌, IfOk, Contains, map}, List.Sorted.IsStrictlySortedBy};
 ghost use Rattle.echo_addr.specs.declared.address.Address.{Address};
 ghost use Rattle.echo_net.specs.Drawn.{IsDrawing, back, link_from, loop_links, loop_named, mark_of, sides_of, system_from, systems_named, upward};
 ghost use Rattle.echo_net.specs.declared.link.Link.{Link};

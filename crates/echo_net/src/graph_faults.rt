@@ -1,7 +1,6 @@
 //! The faults of an area's graph: systems apart, and cycles that are not fully linked.
 
-ghost use Rattle.std.specs.Prelude.{◌≡◌, ◌<◌, ◌↔◌, IsTrue, IfOk, MatchOption, Contains, length, map};
-ghost use Rattle.std.specs.List.{All, Sorted.IsStrictlySortedBy};
+ghost use Rattle.std.specs.{Prelude.{◌≡◌, ◌<◌, ◌↔◌, IsTrue, IfOk, MatchOption, Contains, length, map}, List.{All, Sorted.IsStrictlySortedBy}};
 ghost use Rattle.echo_addr.specs.declared.address.Address.{Address};
 ghost use Rattle.model_graph.specs.Rows.{linked};
 ghost use Rattle.model_run.specs.Tidy.{Carries, Tidy, carries, lists};

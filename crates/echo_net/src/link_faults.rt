@@ -1,7 +1,6 @@
 //! The faults of the files and the links of an area: the clauses before those on the graph.
 
-ghost use Rattle.std.specs.Prelude.{◌↔◌, IsTrue, IfOk, MatchOption, Contains};
-ghost use Rattle.std.specs.List.Sorted.{IsStrictlySortedBy};
+ghost use Rattle.std.specs.{Prelude.{◌↔◌, IsTrue, IfOk, MatchOption, Contains}, List.Sorted.IsStrictlySortedBy};
 ghost use Rattle.echo_addr.specs.declared.address.Address.{Address};
 ghost use Rattle.model_run.specs.Tidy.{carries, lists};
 ghost use Rattle.echo_net.specs.{declared.link.Link.Link, Faults.AreSoundLinks, Faults.IsFirstFault, Faults.IsSharedSystem};

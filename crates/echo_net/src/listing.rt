@@ -1,7 +1,6 @@
 //! The systems that an area lists, and those that list them.
 
-ghost use Rattle.std.specs.Prelude.{◌≡◌, ◌++◌, ◌↔◌, ℕ, List, IfOk, OnOk, Contains, map};
-ghost use Rattle.std.specs.List.{flat_map, Sorted.IsStrictlySortedBy};
+ghost use Rattle.std.specs.{Prelude.{◌≡◌, ◌++◌, ◌↔◌, ℕ, List, IfOk, OnOk, Contains, map}, List.{flat_map, Sorted.IsStrictlySortedBy}};
 ghost use Rattle.echo_addr.specs.declared.address.Address.{Address};
 ghost use Rattle.echo_links.specs.Links.{LinkFile};
 ghost use Rattle.model_run.specs.Tidy.{lists};

@@ -1,7 +1,6 @@
 //! Addresses that come twice.
 
-ghost use Rattle.std.specs.Prelude.{◌≡◌, ◌+◌, ◌↔◌, ℕ, IfOk, MatchOption, Contains};
-ghost use Rattle.std.specs.List.Sorted.{IsStrictlySortedBy};
+ghost use Rattle.std.specs.{Prelude.{◌≡◌, ◌+◌, ◌↔◌, ℕ, IfOk, MatchOption, Contains}, List.Sorted.IsStrictlySortedBy};
 ghost use Rattle.model_graph.specs.Walk.{Different, IsAt};
 ghost use Rattle.echo_net.specs.{declared.link.Link.Link, declared.owners.Owner.Owner, Firsts.IsSmallest, Firsts.OccursTwice, Pairs.IsShared};
 

@@ -1,7 +1,6 @@
 //! The parts of an area: systems that are joined by links that both ends list.
 
-ghost use Rattle.std.specs.Prelude.{◌≡◌, ◌<◌, ◌↔◌, ℕ, Bool, IfOk, Contains, filter, length, slice_index, vec_len};
-ghost use Rattle.std.specs.List.{Sorted.IsStrictlySortedBy};
+ghost use Rattle.std.specs.{Prelude.{◌≡◌, ◌<◌, ◌↔◌, ℕ, Bool, IfOk, Contains, filter, length, slice_index, vec_len}, List.Sorted.IsStrictlySortedBy};
 ghost use Rattle.echo_addr.specs.declared.address.Address.{Address};
 ghost use Rattle.echo_net.specs.{declared.link.Link.Link, Drawn.back, Drawn.has_link};
 ghost use Rattle.echo_net.specs.Parts.{AreBothWays, AreCutOff, AreGrouped, AreLabels, AreOthers, ArePaired, AreParts, AreRelabeled, AreSettled, IsLargestAt, JoinsEnds};

@@ -1,7 +1,6 @@
 //! A net as a graph: a row of links for each carrier.
 
-ghost use Rattle.std.specs.Prelude.{◌≡◌, ◌<◌, ◌↔◌, ℕ, IfOk, Contains};
-ghost use Rattle.std.specs.List.Sorted.{IsStrictlySortedBy};
+ghost use Rattle.std.specs.{Prelude.{◌≡◌, ◌<◌, ◌↔◌, ℕ, IfOk, Contains}, List.Sorted.IsStrictlySortedBy};
 ghost use Rattle.model_graph.specs.{Rows.IsAscending, Walk.IsAt};
 ghost use Rattle.echo_net.specs.{declared.link.Link.Link, Rows.AreRows};
 

@@ -1,7 +1,6 @@
 //! Systems of one net and node.
 
-ghost use Rattle.std.specs.Prelude.{◌≡◌, ◌<◌, ◌+◌, ◌↔◌, ◌⊎◌, ℕ, IsTrue, IfOk, MatchOption, OnOk, Contains, length, map};
-ghost use Rattle.std.specs.List.Sorted.{IsStrictlySortedBy};
+ghost use Rattle.std.specs.{Prelude.{◌≡◌, ◌<◌, ◌+◌, ◌↔◌, ◌⊎◌, ℕ, IsTrue, IfOk, MatchOption, OnOk, Contains, length, map}, List.Sorted.IsStrictlySortedBy};
 ghost use Rattle.echo_addr.specs.declared.address.Address.{Address};
 ghost use Rattle.echo_net.specs.{declared.link.Link.Link, Firsts.HasTwin, Firsts.IsSmallestPair, Pairs.IsTwin, Pairs.neighbour_of};
 

@@ -1,7 +1,6 @@
 //! The place of a value among ascending values.
 
-ghost use Rattle.std.specs.Prelude.{◌≡◌, ◌<◌, ◌↔◌, true, IsTrue, MatchOption, Contains, length, slice_index_or};
-ghost use Rattle.std.specs.List.Sorted.{IsStrictlySortedBy};
+ghost use Rattle.std.specs.{Prelude.{◌≡◌, ◌<◌, ◌↔◌, true, IsTrue, MatchOption, Contains, length, slice_index_or}, List.Sorted.IsStrictlySortedBy};
 
 /// The index of the value among these, which ascend.
 pub fn place<T: Ord>(values: &[T], value: &T) -> Option<usize>

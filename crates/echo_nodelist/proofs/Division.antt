@@ -1,7 +1,6 @@
 -- Division by hand as a register of sixteen bits that takes one bit at a time.
-use Rattle.std.proofs.Common.{◌≡◌, ℕ, zero, suc, ◌-◌, ◌≤◌, Bool, true, false, List, [], ◌∷◌, ◌++◌, length, refl, sym, ap, ◌∙◌, arith}
+use Rattle.std.{proofs.Common.{◌≡◌, ℕ, zero, suc, ◌-◌, ◌≤◌, Bool, true, false, List, [], ◌∷◌, ◌++◌, length, refl, sym, ap, ◌∙◌, arith}, specs.List.fold}
 use Rattle.std.proofs.lemmas.List.{append_assoc, append-nil, length-append}
-use Rattle.std.specs.List.{fold}
 use Rattle.echo_nodelist.specs.Crc.{added, divided, stepped, steps, sum_of, zeros}
 
 abbrev pub poly : List Bool

@@ -1,15 +1,13 @@
 -- Facts about a line that depend on the lines before it.
-use Rattle.std.specs.Prelude.{MatchOption}
+use Rattle.std.{specs.Prelude.MatchOption, proofs.{Math.ListN.get_or-eq_default, lemmas.Bool.{cases_lt, cond_both, ltb-false, ltb-true}}}
 use Rattle.std.proofs.Common.{◌≡◌, ◌≢◌, ℕ, ◌+◌, ◌<◌, ◌≤◌, nat_lt, ◌-◌, List, [], ◌∷◌, ◌++◌, length, get_or, take, reverse, cond, refl, sym, ap, ◌∙◌, arith, Option, Some, None, Ok, Err, inl, inr}
 use Rattle.std.proofs.lemmas.List.{get_or-append_right, get_or_append_left, length-append, length-reverse, reverse-append, reverse-reverse, take-append-le, take_all}
-use Rattle.std.proofs.{Math.ListN.get_or-eq_default, lemmas.Bool.cases_lt, lemmas.Bool.cond_both, lemmas.Bool.ltb-false, lemmas.Bool.ltb-true}
 use Rattle.echo_addr.specs.declared.address.Address.{Address}
 use Rattle.echo_nodelist.specs.{Back.Finds, Back.address_back, Back.each_back, Back.lines_back, Back.zone_back, Nodelist.in_zone, Nodelist.placed, Place.Follows, Place.IsLocated, Place.IsPlaceAfter, Place.Locates, declared.place.ZoneNet.ZoneNet, declared.place.Located.Located, declared.keyword.Keyword.Keyword, declared.line.Line.Line, declared.line.Line.TheVariants.Entry, declared.fault.NodeFault.TheVariants.NoZone}
 
 pub tell_none : (at : ℕ) (earlier : List Line) (k : Keyword) (n : ℕ) (fields : List (List ℕ)) (line : Line) → line ≡ Entry k n fields
     → zone_back (Entry k n fields ∷ earlier) ≡ None → placed at earlier (Ok line) ≡ Err (NoZone at)
-tell_none at earlier k n fields line is none =
-    ap (λ l. placed at earlier (Ok l)) is ∙ ap (λ z. in_zone at z (Entry k n fields)) none
+tell_none at earlier k n fields line is none = ap (λ l. placed at earlier (Ok l)) is ∙ ap (λ z. in_zone at z (Entry k n fields)) none
 
 pub tell_some : (at : ℕ) (earlier : List Line) (k : Keyword) (n : ℕ) (fields : List (List ℕ)) (line : Line) (here : ZoneNet) (address : Address)
     → line ≡ Entry k n fields → IsPlaceAfter (Entry k n fields ∷ earlier) (Some here) → address_back (Entry k n fields ∷ earlier) ≡ Some address

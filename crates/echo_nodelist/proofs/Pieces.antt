@@ -2,8 +2,7 @@ use Rattle.std.proofs.Common.{◌≡◌, ℕ, ◌+◌, ◌-◌, ◌<◌, ◌==�
 use Rattle.std.proofs.lemmas.{List.append_assoc, List.drop_all, List.take_rest, List.Elements.All-from_get_or, List.Sums.fails_before_first, List.Sums.position_or_len_is, List.Splits.slice_split_first, List.Splits.slice_split_none, Bool.false_from_ne_true}
 use Rattle.std.specs.{List.All, List.after_first, List.before_first, List.position_or_len, List.slice_split, Io.BufRead.strip_last}
 use Rattle.memchr.specs.Find.{IsFirstByte, is_byte}
-use Rattle.echo_addr.specs.Pieces.{without_empty_last}
-use Rattle.echo_addr.proofs.Pieces.{ended_piece, last_piece}
+use Rattle.echo_addr.{specs.Pieces.without_empty_last, proofs.Pieces.{ended_piece, last_piece}}
 use Rattle.echo_nodelist.specs.Raw.{is_comma, is_feed, lines_of}
 
 module _ (byte : ℕ) (text : List ℕ) where
@@ -38,8 +37,7 @@ lines_nil = refl
 
 pub lines_split : (text piece rest : List ℕ) → slice_split is_feed text ≡ piece ∷ slice_split is_feed rest → lines_of text ≡ strip_last 13 piece ∷ lines_of rest
 unfolding lines_of
-lines_split text piece rest cut =
-    ap (λ ps. map (strip_last 13) (without_empty_last ps)) cut ∙ ap (map (strip_last 13)) (ended_piece is_feed piece rest)
+lines_split text piece rest cut = ap (λ ps. map (strip_last 13) (without_empty_last ps)) cut ∙ ap (map (strip_last 13)) (ended_piece is_feed piece rest)
 
 pub lines_cut : (text line piece rest : List ℕ) → position_or_len is_feed text < length text → piece ≡ before_first is_feed text → rest ≡ after_first is_feed text
     → line ≡ strip_last 13 piece → lines_of text ≡ line ∷ lines_of rest

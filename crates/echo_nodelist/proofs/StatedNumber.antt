@@ -2,8 +2,7 @@
 use Rattle.std.proofs.Common.{◌≡◌, ℕ, ◌<◌, ◌≤◌, ◌==◌, ◌↔◌, nat_lt, true, false, List, length, min, sym, ◌≢◌, arith, Option, Some, None}
 use Rattle.std.proofs.lemmas.{Bool.and_parts, Bool.cond-false, Bool.cond-true, Bool.eq-eqb, Bool.ne_eqb, Bool.true_from_ne_false, Bool.true≢false, Str.Parse.digits_value_short}
 use Rattle.std.specs.{Prelude.IsNone, Prelude.IfSome, List.after_first, List.before_first, Str.all_ascii_digits, Str.Parse.digits_value, Io.BufRead.strip_last}
-use Rattle.echo_addr.specs.Digits.{is_number}
-use Rattle.echo_addr.proofs.Decimals.{own}
+use Rattle.echo_addr.{specs.Digits.is_number, proofs.Decimals.own}
 use Rattle.echo_nodelist.specs.{declared.stated.CrcLine.TheVariants.Absent, declared.stated.CrcLine.TheVariants.Match, declared.stated.CrcLine.TheVariants.Mismatch, Crc.crc, Raw.is_feed, CrcLine.compared, CrcLine.crc_of_text, CrcLine.stated_crc, CrcLine.states_crc}
 
 pub five_digits : (r : Option ℕ) (ds : List ℕ) → length ds ≤ 5 → (IsNone r ↔ (is_number ds ≡ false)) → IfSome r (λ n. n ≡ min (digits_value 10 ds) 100000)

@@ -28,15 +28,13 @@ address_from _ _ node = None
 abbrev pub address_back : List Line → Option Address
 address_back [] = None
 address_back (Note text ∷ earlier) = None
-address_back (Entry k n fields ∷ earlier) =
-    address_from (zone_back (Entry k n fields ∷ earlier)) (net_back (Entry k n fields ∷ earlier)) (node_of k n)
+address_back (Entry k n fields ∷ earlier) = address_from (zone_back (Entry k n fields ∷ earlier)) (net_back (Entry k n fields ∷ earlier)) (node_of k n)
 
 -- The address of the nearest Hub line, if no Zone, Region or Host line is nearer.
 abbrev pub nearest_hub : List Line → Option Address
 nearest_hub [] = None
 nearest_hub (Note text ∷ earlier) = nearest_hub earlier
-nearest_hub (Entry k n fields ∷ earlier) =
-    if begins_net k then None else if is_hub k then address_back (Entry k n fields ∷ earlier) else nearest_hub earlier
+nearest_hub (Entry k n fields ∷ earlier) = if begins_net k then None else if is_hub k then address_back (Entry k n fields ∷ earlier) else nearest_hub earlier
 
 -- The hub of the first of these lines, if it is a Pvt, Hold or Down line or has no keyword.
 abbrev pub hub_back : List Line → Option Address

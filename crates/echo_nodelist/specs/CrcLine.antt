@@ -25,8 +25,7 @@ without_back_spaces bytes = take (length bytes - suffix_len is_space bytes) byte
 
 -- A line that ends with a colon, blanks 20 and five decimal digits.
 abbrev pub states_crc : List ℕ → Bool
-states_crc line =
-    nat_le 5 (length line) && all_ascii_digits (last_five line) && ends_with_byte 58 (without_back_spaces (before_five line))
+states_crc line = nat_le 5 (length line) && all_ascii_digits (last_five line) && ends_with_byte 58 (without_back_spaces (before_five line))
 
 abbrev pub stated_crc : List ℕ → ℕ
 stated_crc line = digits_value 10 (last_five line)

@@ -64,8 +64,7 @@ with_keyword at (Some k) digits fields = with_number at k (number_of k digits) f
 
 -- The entry in the fields of line `at`: a keyword, a number, and at least five more fields.
 abbrev pub entry_in : ℕ → List (List ℕ) → Result Line NodeFault
-entry_in at (word ∷ (digits ∷ fields)) =
-    if nat_lt (length fields) 5 then Err (TooFewFields at) else with_keyword at (keyword_of word) digits fields
+entry_in at (word ∷ (digits ∷ fields)) = if nat_lt (length fields) 5 then Err (TooFewFields at) else with_keyword at (keyword_of word) digits fields
 entry_in at _ = Err (TooFewFields at)
 
 -- The parsed line `at`, independent of the lines before it.

@@ -1,6 +1,5 @@
 -- A written text, and its bytes after the AREA line.
-use Rattle.std.proofs.Common.{◌≡◌, ◌+◌, ◌≤◌, [], ◌∷◌, ◌++◌, length, drop, arith}
-use Rattle.std.proofs.lemmas.List.{drop_at, length-append}
+use Rattle.std.proofs.{Common.{◌≡◌, ◌+◌, ◌≤◌, [], ◌∷◌, ◌++◌, length, drop, arith}, lemmas.List.{drop_at, length-append}}
 use Rattle.echo_text.specs.{Lines.area_word, Echo.EchoText, Echo.ended}
 use Rattle.echo_filed.specs.Written.{text_of}
 use Rattle.echo_stored.specs.StoredMessage.{text_behind}

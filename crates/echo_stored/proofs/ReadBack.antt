@@ -2,13 +2,10 @@
 use Rattle.std.proofs.Common.{◌≡◌, ◌≢◌, Bool, ℕ, suc, ◌+◌, ◌-◌, ◌<◌, ◌==◌, not, List, [], ◌∷◌, ◌++◌, length, take, refl, sym, ap, subst, ◌∙◌, arith, append_assoc, length-append}
 use Rattle.std.proofs.lemmas.{Bool.cond-true, Bool.ne_eqb, List.drop_at, List.length-replicate, List.take_at, List.Elements.All-drop, List.Elements.recursion_from_All}
 use Rattle.std.specs.{List.AllByRecursion, List.prefix_len, Prelude.replicate}
-use Rattle.echo_filed.specs.{Filed.Filed, Filed.IsFiled, Written.text_of}
-use Rattle.echo_filed.proofs.Texts.{text_is_text}
-use Rattle.echo_text.specs.Echo.{EchoText, HasNoZero, IsEcho}
-use Rattle.echo_text.proofs.NoZeros.{written_has_no_zero}
-use Rattle.echo_stored.specs.StoredMessage.{attribute_of, padded, stored_address, stored_front, stored_numbers, text_behind}
+use Rattle.echo_filed.{specs.{Filed.{Filed, IsFiled}, Written.text_of}, proofs.Texts.text_is_text}
+use Rattle.echo_text.{specs.Echo.{EchoText, HasNoZero, IsEcho}, proofs.NoZeros.written_has_no_zero}
+use Rattle.echo_stored.{specs.StoredMessage.{attribute_of, padded, stored_address, stored_front, stored_numbers, text_behind}, proofs.Behind.behind}
 use Rattle.echo_stored.specs.StoredReading.{ReadsBack, field_at, text_in, until_zero}
-use Rattle.echo_stored.proofs.Behind.{behind}
 
 filled_len : (bytes rest : List ℕ) → AllByRecursion (λ b. b ≢ 0) bytes → prefix_len (λ b. not (b == 0)) (bytes ++ 0 ∷ rest) ≡ length bytes
 filled_len [] rest h = refl

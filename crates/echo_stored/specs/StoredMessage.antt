@@ -1,6 +1,5 @@
 -- The stored message of FTS-0001: one message in a file, as editors and tossers write it.
-use Rattle.std.specs.Prelude.{ℕ, ◌-◌, Bool, List, [], ◌∷◌, ◌++◌, length, replicate, if◌then◌else◌, Option, Some, None}
-use Rattle.std.specs.List.{flat_map}
+use Rattle.std.specs.{Prelude.{ℕ, ◌-◌, Bool, List, [], ◌∷◌, ◌++◌, length, replicate, if◌then◌else◌, Option, Some, None}, List.flat_map}
 use Rattle.echo_addr.specs.{declared.address.Address.Address, ShortLines.path_prefix, ShortLines.seen_prefix}
 use Rattle.echo_filed.specs.{Filed.Filed, Written.short_lines}
 use Rattle.echo_packet.specs.Header.{word}
@@ -42,5 +41,4 @@ text_behind e = flat_map ended e.kept ++ (short_lines seen_prefix e.seen ++ shor
 
 -- The bytes of the stored message, either scanned or waiting.
 abbrev pub stored_bytes : Bool → Filed → List ℕ
-stored_bytes scanned m =
-    stored_front m ++ (stored_numbers (stored_address m) (attribute_of scanned m.sender) ++ (text_behind m.echo ++ 0 ∷ []))
+stored_bytes scanned m = stored_front m ++ (stored_numbers (stored_address m) (attribute_of scanned m.sender) ++ (text_behind m.echo ++ 0 ∷ []))

@@ -2,8 +2,7 @@
 use Rattle.std.specs.Prelude.{◌≡◌, ℕ, ◌/◌, ◌%◌, ◌==◌, ◌||◌, ◌&&◌, not, nat_le, Bool, true, false, List, [], length, take, drop, slice_index, if◌then◌else◌, unwrap_or, Result, Ok, Err}
 use Rattle.std.specs.List.{flat_map, prefix_len}
 use Rattle.echo_filed.specs.Filed.{Filed}
-use Rattle.echo_text.specs.Lines.{begins, is_origin, is_path, is_seen, is_tear, lines, msgid_word, reply_word}
-use Rattle.echo_text.specs.Echo.{ended, first_after}
+use Rattle.echo_text.specs.{Lines.{begins, is_origin, is_path, is_seen, is_tear, lines, msgid_word, reply_word}, Echo.{ended, first_after}}
 use Rattle.echo_stored.specs.{StoredMessage.stored_bytes, StoredMessage.text_behind, declared.reading.StoredDraft.StoredDraft, declared.reading.StoredFault.StoredFault}
 use Rattle.echo_stored.specs.declared.reading.StoredFault.TheVariants.{BadMessage, Memory}
 

@@ -1,15 +1,12 @@
 -- A list in ascending order, with each item once, is the set of the list.
 use Rattle.std.proofs.Common.{◌≡◌, ◌⊎◌, ⊎_elim, inl, inr, ℕ, ◌<◌, ◌==◌, ◌&&◌, ◌||◌, nat_lt, Bool, true, List, [], ◌∷◌, ◌++◌, ◌+◌, length, get_or, take, drop, ap, ◌∙◌, subst, sym, arith}
-use Rattle.std.proofs.lemmas.Bool.{and_from, eq-eqb, lt-ltb, or_left, or_right}
-use Rattle.std.proofs.lemmas.Cmp.{ranked}
-use Rattle.std.proofs.lemmas.List.{append_assoc, take-append-drop, take_more}
+use Rattle.std.proofs.lemmas.{Bool.{and_from, eq-eqb, lt-ltb, or_left, or_right}, Cmp.ranked, List.{append_assoc, take-append-drop, take_more}}
 use Rattle.std.specs.declared.cmp.Ordering.{Ordering, TheVariants.Less, TheVariants.Equal, TheVariants.Greater}
 use Rattle.std.specs.{Ordering.MatchOrdering, Ordering.eq_by_cmp, Ordering.nat_cmp, Ordering.ordering_then, Prelude.◌↔◌, Prelude.Contains, Cmp.IsTotalOrder, Cmp.nat_cmp_total, Cmp.on_total, Cmp.then_total, List.Sorted.IsStrictlySortedBy}
 use Rattle.echo_addr.specs.declared.address.{Address.Address, NetNode.NetNode}
 use Rattle.echo_text.proofs.Sets.{set_in_order}
 use Rattle.echo_links.specs.Links.{same_address}
-use Rattle.echo_filed.specs.Sets.{address_before, address_set, entry_before, entry_set}
-use Rattle.echo_filed.proofs.Sets.{Ascending, same_set, set_ascending, set_keeps, set_only}
+use Rattle.echo_filed.{specs.Sets.{address_before, address_set, entry_before, entry_set}, proofs.Sets.{Ascending, same_set, set_ascending, set_keeps, set_only}}
 use Rattle.echo_filed.proofs.{Choices.IsIn, Choices.all_weaker, Choices.contained_in, Choices.in_contained, Orders.address_order, Orders.entry_order, Orders.entry_set_is_set, Orders.one_set}
 
 pub entries_in_order : (all set : List NetNode) → IsStrictlySortedBy Rattle.echo_text.proofs.Sets.order set

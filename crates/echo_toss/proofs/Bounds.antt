@@ -1,5 +1,4 @@
-use Rattle.std.proofs.Common.{inl, inr, Err}
-use Rattle.std.specs.Prelude.{IsErrOf}
+use Rattle.std.{proofs.Common.{inl, inr, Err}, specs.Prelude.IsErrOf}
 use Rattle.base_file.specs.Base.{Base}
 use Rattle.disk_io.specs.Disk.{Honestly}
 use Rattle.echo_filed.specs.Filed.{Filed}

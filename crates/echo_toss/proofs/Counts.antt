@@ -8,8 +8,7 @@ use Rattle.echo_packet.specs.Message.{Message, message_bytes, messages_bytes, nu
 use Rattle.echo_links.specs.Links.{Area, LinkFile, area_of, links_of}
 use Rattle.echo_filed.specs.{Filed.Filed, Sets.address_before, Sets.address_set}
 use Rattle.echo_filed.proofs.{Sets.Ascending, Sets.same_set, Sets.set_ascending, Sets.set_keeps, Sets.set_only, Choices.IsIn, Orders.address_order}
-use Rattle.model_steps.specs.{declared.stamp.Stamp.Stamp, Scanning.header_to, Scanning.scanned, Scanning.targets}
-use Rattle.model_steps.proofs.Encoding.{header_size, packet_size}
+use Rattle.model_steps.{specs.{declared.stamp.Stamp.Stamp, Scanning.{header_to, scanned, targets}}, proofs.Encoding.{header_size, packet_size}}
 use Rattle.echo_toss.specs.{Counts.copies_out, Counts.counted_to, Counts.counted_with, Counts.counted_of, Counts.has_messages, Counts.link_set, declared.counting.CountedPacket.CountedPacket, Exports.OutgoingMessage, Exports.copy_out, Exports.goes_out, Exports.outgoing_of, Exports.packet_out, Exports.sent_of}
 use Rattle.echo_toss.proofs.{AscendingSets.in_back, AscendingSets.in_either, AscendingSets.in_front, Exports.kept_targets, Exports.scan_made, Searches.found_in, Searches.in_found}
 

@@ -1,13 +1,10 @@
 -- The message of a draft, part by part.
-use Rattle.std.proofs.Common.{◌≡◌, ℕ, List, [], ◌∷◌, ◌++◌, codes, ap, ◌∙◌, append-nil, append_assoc, None, arith}
+use Rattle.std.{proofs.Common.{◌≡◌, ℕ, List, [], ◌∷◌, ◌++◌, codes, ap, ◌∙◌, append-nil, append_assoc, None, arith}, specs.List.{All, flat_map}}
 use Rattle.std.proofs.lemmas.{Grind.flat_map-append, List.Elements.All-weaker, List.Elements.recursion_from_All}
-use Rattle.std.specs.List.{All, flat_map}
 use Rattle.echo_addr.specs.declared.address.NetNode.{NetNode}
-use Rattle.echo_text.specs.{Echo.IsLine, Echo.ended, Ids.id_of, Lines.lines, Lines.msgid_word}
-use Rattle.echo_text.proofs.{EndedLines.PutTogether, EndedLines.whole_text, TextLines.IsPiece}
+use Rattle.echo_text.{specs.{Echo.{IsLine, ended}, Ids.id_of, Lines.{lines, msgid_word}}, proofs.{EndedLines.{PutTogether, whole_text}, TextLines.IsPiece}}
 use Rattle.echo_links.specs.Links.{LinkFile, upper}
-use Rattle.echo_filed.specs.Filed.{id_line}
-use Rattle.echo_filed.proofs.LinesOfIds.{line_piece}
+use Rattle.echo_filed.{specs.Filed.id_line, proofs.LinesOfIds.line_piece}
 use Rattle.model_steps.specs.{declared.draft.Draft.Draft, declared.stamp.Stamp.Stamp, Posting.origin_line, Posting.posted, Posting.posted_lines, Posting.reply_lines, Stamps.date_of}
 
 pub posted_is : (file : LinkFile) (tag : List ℕ) (draft : Draft) (serial : ℕ) (stamp : Stamp) (date to_name from_name subject raised : List ℕ) (kept : List (List ℕ)) (seen path : List NetNode)
@@ -20,8 +17,7 @@ posted_is file tag draft serial stamp date to_name from_name subject raised kept
     λ i. record { sender = None; date = d i; to_name = t i; from_name = f i; subject = j i; echo = record { tag = r i; kept = k i; seen = s i; path = p i } }
 
 regrouped : (a r b t o : List ℕ) → (((a ++ r) ++ b) ++ t) ++ o ≡ a ++ (r ++ (b ++ (t ++ o)))
-regrouped a r b t o =
-    append_assoc ((a ++ r) ++ b) t o ∙ append_assoc (a ++ r) b (t ++ o) ∙ append_assoc a r (b ++ (t ++ o))
+regrouped a r b t o = append_assoc ((a ++ r) ++ b) t o ∙ append_assoc (a ++ r) b (t ++ o) ∙ append_assoc a r (b ++ (t ++ o))
 
 text_is : (id tear origin : List ℕ) (reply body : List (List ℕ)) (none first second third fourth all : List ℕ) → none ≡ [] → first ≡ none ++ ended id
     → second ≡ first ++ flat_map ended reply → third ≡ second ++ flat_map ended body → fourth ≡ third ++ ended tear → all ≡ fourth ++ ended origin

@@ -3,15 +3,12 @@ use Rattle.std.proofs.Common.{◌≡◌, ℕ, ◌+◌, Bool, false, true≢false
 use Rattle.std.proofs.lemmas.{Bool.cases_Bool, Bool.cond-false, Bool.cond-true, List.drop_more, Option.get_or_from_slice_get, Option.slice_get_within}
 use Rattle.std.specs.{Prelude.filter, Prelude.slice_get, List.flat_map, declared.alloc.Global.Global}
 use Rattle.echo_addr.specs.{declared.address.Address.Address, declared.address.NetNode.NetNode, Address.net_node_of}
-use Rattle.echo_text.specs.Echo.{EchoText, IsEcho, TextOf}
-use Rattle.echo_filed.specs.{Written.text_of, Filed.Filed, Sets.address_set, Sets.entry_set}
-use Rattle.echo_filed.proofs.Texts.{text_is_text}
-use Rattle.echo_text.proofs.{OneReading.one_text, NoZeros.written_has_no_zero}
+use Rattle.echo_text.{specs.Echo.{EchoText, IsEcho, TextOf}, proofs.{OneReading.one_text, NoZeros.written_has_no_zero}}
+use Rattle.echo_filed.{specs.{Written.text_of, Filed.Filed, Sets.{address_set, entry_set}}, proofs.Texts.text_is_text}
 use Rattle.echo_packet.specs.Message.{HasNoZero}
-use Rattle.model_steps.proofs.Copies.{exported_is_echo}
+use Rattle.model_steps.{proofs.Copies.exported_is_echo, specs.declared.{stamp.Stamp.Stamp, packet.Packet.Packet}}
 use Rattle.echo_links.specs.Links.{IsFile, LinkFile, links_of}
 use Rattle.model_steps.specs.Scanning.{copy_to, exported, goes_to, header_to, packet_to, packets_of, recipients, scanned, targets}
-use Rattle.model_steps.specs.declared.{stamp.Stamp.Stamp, packet.Packet.Packet}
 use Rattle.echo_toss.specs.Exports.{OutgoingMessage, copy_out, goes_out, has_some, is_sent, outgoing_of, packet_out, packets_out, sent_of}
 use Rattle.echo_toss.proofs.{AscendingSets.set_twice, AscendingSets.sets_together, Searches.among_set}
 

@@ -1,7 +1,6 @@
 -- Why a posting is refused: the link file and the draft first, then the base.
-use Rattle.std.proofs.Common.{◌≡◌, ℕ, ◌==◌, ◌||◌, Bool, true, false, not, List, length, refl, Option, Some, None, if◌then◌else◌, arith}
+use Rattle.std.{proofs.Common.{◌≡◌, ℕ, ◌==◌, ◌||◌, Bool, true, false, not, List, length, refl, Option, Some, None, if◌then◌else◌, arith}, specs.List.list_any}
 use Rattle.std.proofs.lemmas.Bool.{cases_Bool}
-use Rattle.std.specs.List.{list_any}
 use Rattle.echo_text.specs.Ids.{id_of}
 use Rattle.echo_links.specs.Links.{IsFile, LinkFile, has_area, upper}
 use Rattle.echo_filed.specs.{declared.key.Key.Key, Filed.Filed, Filed.key_of}

@@ -1,17 +1,14 @@
 -- A packet is tossed into a store, message by message.
 use Rattle.std.proofs.Common.{◌≡◌, ◌≤◌, ℕ, ◌+◌, List, [], inl, refl, sym, ap, ◌∙◌, subst, arith, Option, IfSome, Result, Ok, Err}
-use Rattle.std.proofs.KnownBytes.{Consumes-nil, Consumes-trans}
+use Rattle.std.{proofs.KnownBytes.{Consumes-nil, Consumes-trans}, specs.Io.KnownBytes.Consumes}
 use Rattle.disk_io.specs.Disk.{Honestly}
 use Rattle.echo_addr.specs.declared.address.Address.{Address}
 use Rattle.echo_packet.specs.{declared.limits.Limits.Limits, declared.fault.PacketFault.PacketFault, Next.FailsInMessage, Next.NextFault, Header.word}
 use Rattle.echo_packet.specs.declared.fault.PacketFault.TheVariants as fault
-use Rattle.std.specs.Io.KnownBytes.{Consumes}
 use Rattle.base_file.specs.Base.{Base}
 use Rattle.echo_links.specs.Links.{LinkFile}
-use Rattle.base_store.specs.Store.{CommitsNothing, GoesOn, StoreState}
-use Rattle.base_store.proofs.Runs.{looks_commit, looks_go_on, no_look}
-use Rattle.model_steps.specs.declared.outcome.Outcome.TheVariants.{BadTag, Filed, Known, NoArea, NotEcho, NotLinked}
-use Rattle.model_steps.specs.{declared.outcome.Outcome.Outcome, SystemState.SystemState}
+use Rattle.base_store.{specs.Store.{CommitsNothing, GoesOn, StoreState}, proofs.Runs.{looks_commit, looks_go_on, no_look}}
+use Rattle.model_steps.specs.{declared.outcome.Outcome.{TheVariants.{BadTag, Filed, Known, NoArea, NotEcho, NotLinked}, Outcome}, SystemState.SystemState}
 use Rattle.echo_toss.specs.{declared.tally.Tally.Tally, declared.fault.TossCause.TossCause, Tallies.all_counted, Tallies.tally_of, Tallies.tally_with, PacketSteps.cause_of, PacketSteps.PacketStep, PacketSteps.TossesAll, PacketSteps.TossesPart, Messages.IsOpened, Messages.IsUnopened, Messages.TossesToEnd, declared.step_error.StoppedToss.StoppedToss, PacketsIn.ReadsMessages, PacketsIn.TossesPacketIn, PacketsIn.packet_answer, PacketsIn.state_in}
 use Rattle.echo_toss.specs.declared.fault.TossCause.TheVariants as stop
 use Rattle.echo_toss.proofs.PacketTosses.{HasGone, all_given, some_taken}

@@ -1,7 +1,6 @@
 -- Bytes say one header and one list of messages.
 use Rattle.std.proofs.Common.{◌≡◌, ◌≢◌, ℕ, suc, ◌+◌, ◌<◌, ◌≤◌, List, [], ◌∷◌, ◌++◌, length, take, drop, refl, sym, ap, ◌∙◌, arith, append_assoc, length-append}
-use Rattle.std.proofs.lemmas.List.{drop_at}
-use Rattle.std.specs.List.{AllByRecursion}
+use Rattle.std.{proofs.lemmas.List.drop_at, specs.List.AllByRecursion}
 use Rattle.echo_packet.specs.{declared.header.Header.Header, declared.limits.Limits.Limits, declared.fault.PacketFault.PacketFault, Header.IsHeader, Header.header_bytes, Header.header_of, Header.word, Message.IsMessage, Message.Message, Message.message_bytes, Message.messages_bytes, Reader.FrontFault}
 use Rattle.echo_packet.specs.declared.fault.PacketFault.TheVariants as fault
 use Rattle.echo_packet.proofs.{Verdicts.End, Verdicts.Whole, Verdicts.verdict, Verdicts.verdict-end, Verdicts.verdict-whole, Headers.header_of-header_bytes, Headers.length-header_bytes, Headers.number_at-header_bytes}

@@ -1,14 +1,12 @@
 -- The messages to send again, one by one.
 use Rattle.std.proofs.Common.{◌≡◌, ℕ, zero, suc, ◌+◌, ◌<◌, List, [], ◌∷◌, ◌++◌, length, get_or, take, drop, map, refl, sym, ap, ◌∙◌, append_assoc, arith, add-one}
-use Rattle.std.proofs.lemmas.Option.{get_or_from_slice_get, slice_get_within}
-use Rattle.std.specs.Prelude.{Bool, true, cond, filter, min, ◌&&◌}
+use Rattle.std.{proofs.lemmas.Option.{get_or_from_slice_get, slice_get_within}, specs.Prelude.{Bool, true, cond, filter, min, ◌&&◌}}
 use Rattle.echo_addr.specs.declared.address.Address.{Address}
 use Rattle.echo_packet.specs.Message.{Message}
 use Rattle.echo_links.specs.Links.{LinkFile}
 use Rattle.echo_filed.specs.Filed.{Filed}
 use Rattle.model_steps.specs.{Resending.is_resent, Resending.is_whole_in, Scanning.copy_to, Scanning.goes_to}
-use Rattle.echo_toss.specs.Exports.{IsResentAt, OutgoingMessage, copy_out, goes_out, outgoing_of}
-use Rattle.echo_toss.proofs.Exports.{same_copies}
+use Rattle.echo_toss.{specs.Exports.{IsResentAt, OutgoingMessage, copy_out, goes_out, outgoing_of}, proofs.Exports.same_copies}
 
 abbrev pub copies_of : LinkFile → List ℕ → Address → List Filed → List Message
 copies_of file area to ms = map (copy_to file to) (filter (is_resent file area to) ms)

@@ -4,8 +4,7 @@ use Rattle.std.proofs.lemmas.{Bool.cases_Bool, Bool.false_from_ne_true, Bool.ltb
 use Rattle.std.specs.declared.cmp.Ordering.{Ordering, TheVariants.Less, TheVariants.Equal, TheVariants.Greater}
 use Rattle.std.specs.{Ordering.is_eq, Ordering.is_lt, Ordering.ordering_index, List.list_any, List.Sorted.IsBinarySearchResult, List.Sorted.IsNonDecreasingBy, List.Sorted.IsSearchInRange, List.Sorted.IsSorted, Prelude.nat_lt}
 use Rattle.echo_addr.specs.declared.address.Address.{Address}
-use Rattle.echo_links.specs.Links.{same_address}
-use Rattle.echo_links.proofs.Addresses.{same_address_decides}
+use Rattle.echo_links.{specs.Links.same_address, proofs.Addresses.same_address_decides}
 use Rattle.echo_filed.specs.Sets.{address_before, address_set}
 use Rattle.echo_filed.proofs.{Sets.Ascending, Sets.ascending_pairs, Sets.set_ascending, Sets.set_keeps, Sets.set_only, Choices.IsIn, Orders.address_order}
 use Rattle.echo_toss.proofs.AscendingSets.{address_cmp, less_before, ties, total}

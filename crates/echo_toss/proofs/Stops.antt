@@ -1,6 +1,5 @@
 -- A toss of a packet that stopped behind its header.
-use Rattle.std.proofs.Common.{◌≡◌, ℕ, ◌⊎◌, inl, inr, List, [], ◌++◌, subst, append_assoc, Option, Some, None, IfSome, arith}
-use Rattle.std.proofs.KnownBytes.{Consumes-trans}
+use Rattle.std.proofs.{Common.{◌≡◌, ℕ, ◌⊎◌, inl, inr, List, [], ◌++◌, subst, append_assoc, Option, Some, None, IfSome, arith}, KnownBytes.Consumes-trans}
 use Rattle.std.specs.Io.KnownBytes.{Consumes}
 use Rattle.echo_addr.specs.declared.address.Address.{Address}
 use Rattle.echo_packet.specs.{declared.header.Header.Header, declared.limits.Limits.Limits, declared.fault.PacketFault.PacketFault, Header.IsHeader, Header.header_bytes, Message.AreMessages, Message.Message, Message.messages_bytes, Fault.FaultOf, Field.Consumed, Next.FailsInMessage, Next.NextFault, Run.IsOfCall, Run.SoFar}

@@ -1,12 +1,10 @@
 use Rattle.std.proofs.Common.{◌≡◌, ℕ, Bool, true, false, List, refl, subst, ◌∙◌, Option, Some, None, not, if◌then◌else◌, Result, Ok, Err, IfOk, ◌⊎◌, inl, inr, arith}
 use Rattle.echo_addr.specs.declared.address.{Address.Address, NetNode.NetNode}
 use Rattle.echo_packet.specs.Message.{Message}
-use Rattle.echo_text.specs.{declared.fault.TextFault.TextFault, Echo.EchoOf, Echo.EchoText, Echo.FrontOf, Refusal.text_refusal}
+use Rattle.echo_text.{specs.{declared.fault.TextFault.TextFault, Echo.{EchoOf, EchoText, FrontOf}, Refusal.text_refusal}, proofs.SaidAfter.front_accepted}
 use Rattle.echo_text.specs.declared.fault.TextFault.TheVariants as text
 use Rattle.echo_links.specs.Links.{LinkFile, has_area, is_link}
-use Rattle.echo_filed.specs.{Filed.Filed, Filed.key_of, Written.echo_of, declared.key.Key.Key}
-use Rattle.echo_text.proofs.SaidAfter.{front_accepted}
-use Rattle.echo_filed.proofs.Texts.{says_one}
+use Rattle.echo_filed.{specs.{Filed.{Filed, key_of}, Written.echo_of, declared.key.Key.Key}, proofs.Texts.says_one}
 use Rattle.base_file.specs.Base.{is_known}
 use Rattle.model_steps.specs.{Tossing.IsOutcome, Tossing.received, Tossing.toss_outcome, Tossing.tossing, Tossing.where_filed, declared.outcome.Outcome.Outcome}
 use Rattle.model_steps.specs.declared.outcome.Outcome.TheVariants as outcome

@@ -1,6 +1,5 @@
 -- The packets of a scan, counted group by group.
-use Rattle.std.specs.Prelude.{◌≡◌, ℕ, ◌+◌, nat_lt, Bool, List, ◌++◌, map, filter, length, drop}
-use Rattle.std.specs.List.{flat_map}
+use Rattle.std.specs.{Prelude.{◌≡◌, ℕ, ◌+◌, nat_lt, Bool, List, ◌++◌, map, filter, length, drop}, List.flat_map}
 use Rattle.echo_addr.specs.declared.address.Address.{Address}
 use Rattle.echo_packet.specs.{Message.Message, Message.messages_bytes, Packet.packet_bytes}
 use Rattle.echo_links.specs.Links.{LinkFile, links_of}

@@ -1,6 +1,5 @@
 -- The calls within the toss of a packet, for its header and its messages.
-use Rattle.std.specs.Prelude.{◌≡◌, ◌≢◌, ℕ, ◌+◌, List, [], length, Option, IfSome, Result, Ok, Err}
-use Rattle.std.specs.Io.KnownBytes.{Consumes}
+use Rattle.std.specs.{Prelude.{◌≡◌, ◌≢◌, ℕ, ◌+◌, List, [], length, Option, IfSome, Result, Ok, Err}, Io.KnownBytes.Consumes}
 use Rattle.echo_addr.specs.declared.address.Address.{Address}
 use Rattle.echo_packet.specs.{declared.header.Header.Header, declared.limits.Limits.Limits, declared.fault.PacketFault.PacketFault, Header.IsHeader, Header.header_bytes, Header.word, Message.AreMessages, Message.Message, Message.messages_bytes, Fault.place_of, Next.FailsInMessage, Next.NextFault, Reader.FailsInFront, Reader.FrontFault}
 use Rattle.echo_packet.specs.declared.fault.PacketFault.TheVariants as fault
@@ -59,8 +58,7 @@ abbrev pub StopsNext : Limits → ℕ → ℕ → Option (List ℕ) → Option (
 StopsNext limits given at left after (stop.NotForUs a) = ⊥
 StopsNext limits given at left after stop.Memory = Unit {0}
 StopsNext limits given at left after (stop.Packet fault.Memory) = ⊥
-StopsNext limits given at left after (stop.Packet f) =
-    IfSome left (λ bs. NextFault limits given at bs f) × FailsInMessage limits given at [] left after f
+StopsNext limits given at left after (stop.Packet f) = IfSome left (λ bs. NextFault limits given at bs f) × FailsInMessage limits given at [] left after f
 
 -- The reader consumed messages, and the system tossed them, but not the next one.
 pub record TakesSome (limits : Limits) (sender : Address) (old : SystemState) (before after : Option (List ℕ)) (tally : Tally) (cause : TossCause) (new : SystemState) : Type 0 where

@@ -77,8 +77,7 @@ abbrev pub TossesPart : Limits → SystemState → Option (List ℕ) → Option 
 TossesPart limits old before after tally (stop.NotForUs a) new = IsForOther old before after tally a new
 TossesPart limits old before after tally stop.Memory new = TossesSome limits old before tally new
 TossesPart limits old before after tally (stop.Packet fault.Memory) new = ⊥
-TossesPart limits old before after tally (stop.Packet f) new =
-    FailsInHeader old before after tally f new ⊎ TossesUpToFault limits old before after tally f new
+TossesPart limits old before after tally (stop.Packet f) new = FailsInHeader old before after tally f new ⊎ TossesUpToFault limits old before after tally f new
 
 -- The toss of the packet at the front of a reader's bytes.
 abbrev pub PacketStep : Limits → SystemState → Option (List ℕ) → Option (List ℕ) → Result Tally TossFault → SystemState → Type 0
@@ -97,5 +96,4 @@ CountsToss (Err f) before after = CountsCause f.cause before after
 -- The toss of these messages if the reader does not fail: it tossed all, or memory ran out after the first n.
 abbrev pub WholeStep : SystemState → Address → List Message → Result Tally TossFault → SystemState → Type 0
 WholeStep old sender ms (Ok tally) new = HasTossed sender ms old tally new
-WholeStep old sender ms (Err f) new =
-    (f.cause ≡ stop.Memory) × ((n : ℕ) × (n ≤ length ms) × HasTossed sender (take n ms) old f.tally new)
+WholeStep old sender ms (Err f) new = (f.cause ≡ stop.Memory) × ((n : ℕ) × (n ≤ length ms) × HasTossed sender (take n ms) old f.tally new)

@@ -24,8 +24,7 @@ pub record IsWanted (file : LinkFile) (sender : Address) (packed : Message) (tag
 
 -- With any base, the message has this outcome and is not filed.
 abbrev pub IsUnwanted : LinkFile → Address → Message → Outcome → Type 0
-IsUnwanted file sender packed answer =
-    (base : List Filed) → (answer ≡ toss_outcome file base sender packed) × (None ≡ tossing file base sender packed)
+IsUnwanted file sender packed answer = (base : List Filed) → (answer ≡ toss_outcome file base sender packed) × (None ≡ tossing file base sender packed)
 
 abbrev pub IsRead : LinkFile → Address → Message → Reading → Type 0
 IsRead file sender packed (Wanted front) = IsWanted file sender packed front.tag front.kept

@@ -1,6 +1,5 @@
 //! The packets of outgoing messages.
-ghost use Rattle.std.specs.Prelude.{◌≡◌, List, [], ◌∷◌, ◌++◌, true, map, filter, IfOk, OnOk};
-ghost use Rattle.std.specs.List.{flat_map};
+ghost use Rattle.std.specs.{Prelude.{◌≡◌, List, [], ◌∷◌, ◌++◌, true, map, filter, IfOk, OnOk}, List.flat_map};
 ghost use Rattle.echo_addr.specs.declared.address.Address.{Address};
 ghost use Rattle.echo_filed.specs.Sets.{address_set};
 ghost use Rattle.model_steps.specs.{Scanning.header_to, Stamps.is_stamp};

@@ -1,5 +1,4 @@
-ghost use Rattle.std.specs.Prelude.{◌≡◌, ◌==◌, ◌||◌, length, Some, None, MatchResult};
-ghost use Rattle.std.specs.List.{list_any};
+ghost use Rattle.std.specs.{Prelude.{◌≡◌, ◌==◌, ◌||◌, length, Some, None, MatchResult}, List.list_any};
 ghost use Rattle.echo_text.specs.Ids.{is_zero};
 ghost use Rattle.echo_links.specs.Links.{has_area, upper};
 ghost use Rattle.model_steps.specs.{Posting.holds_zero, Posting.is_too_long, ReplyIds.is_reply_id};

@@ -2,8 +2,7 @@
 use Rattle.std.proofs.Common.{◌≡◌, ◌⊎◌, inl, inr, refl, sym, subst, ◌∙◌, ℕ, zero, suc, ◌≤◌, arith, List, [], ◌∷◌, length, take, Option, Some, None}
 use Rattle.model_graph.specs.Walk.{Among}
 use Rattle.model_steps.specs.declared.stamp.Stamp.{Stamp}
-use Rattle.model_run.specs.Run.{nth}
-use Rattle.model_run.proofs.Targets.{some_same}
+use Rattle.model_run.{specs.Run.nth, proofs.Targets.some_same}
 use Rattle.law_stations.specs.Commands.{Command, CommandEvent, Happen, Happens, Leads, Post, Purge, Scan, Toss}
 use Rattle.law_stations.specs.{OverCrashes.CrashesAreNone, OverCrashes.HasNet, OverCrashes.IsLike, OverCrashes.IsLikeEvent, OverCrashes.IsToBeNamed, Nets.Net, Nets.Paired, Nets.first_net, Disks.StagingFile, Disks.Disks, Disks.cursors, Disks.first_disks, Stopping.EndsSome, Stopping.PartialEffect, Stopping.MayHappen, Stopping.MayHappenAll, Stopping.Moves, Stopping.ScansFar, Stopping.Writes}
 use Rattle.law_stations.proofs.{Counting.among-times, Counting.below-most, Counting.below-there, Counting.same-is, Counting.same_as, Counting.times, Counting.times-different, Counting.waits, Ending.some-ended, Moving.moved, Moving.scans, Moving.then, Moving.written, Others.Led, Others.posted-too, Others.purged-too, Others.tossed-too, Tracking.IsTagged, Tracking.Tracks, Tracking.cursor-too}

@@ -1,7 +1,6 @@
 -- Command events are events of a run.
 use Rattle.std.proofs.Common.{◌≡◌, ◌⊎◌, inl, inr, refl, sym, subst, ap, ◌∙◌, ℕ, ◌==◌, arith, true, List, [], ◌∷◌, ◌++◌, map, Option, Some, None}
-use Rattle.std.proofs.lemmas.Bool.{eqb-false, eqb-true}
-use Rattle.std.specs.Prelude.{Bool, false, if◌then◌else◌}
+use Rattle.std.{proofs.lemmas.Bool.{eqb-false, eqb-true}, specs.Prelude.{Bool, false, if◌then◌else◌}}
 use Rattle.model_graph.specs.Walk.{Different}
 use Rattle.echo_links.specs.Links.{LinkFile}
 use Rattle.model_run.specs.{Run.Run, Run.System, Run.after_events, Run.change, Run.fresh, Run.nth, Run.posting_at, Run.purging_at, Run.scanning, Run.scanning_at, Run.start, Event.Posting, Event.Purging, Event.RunEvent, Event.Scanning}

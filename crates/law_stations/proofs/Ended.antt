@@ -1,8 +1,7 @@
 -- The staging files of a station are finished, one after another.
 use Rattle.std.proofs.Common.{◌≡◌, ◌≢◌, inl, inr, ⊎_elim, ◌∙◌, ℕ, zero, suc, ◌<◌, ◌≤◌, Bool, true, false, List, [], ◌∷◌, ◌++◌, append-nil, append_assoc, refl, sym, subst, ap}
 use Rattle.std.proofs.lemmas.Bool.{cases_eq, cases_lt}
-use Rattle.model_graph.specs.Walk.{Among}
-use Rattle.model_graph.proofs.Floods.{Among-push_cases}
+use Rattle.model_graph.{specs.Walk.Among, proofs.Floods.Among-push_cases}
 use Rattle.law_stations.specs.{Nets.Net, CanEnd.CanEnd, CanEnd.LeftCanEnd, Disks.StagingFile, Disks.HasCursor, Disks.naming, Stopping.EndsOne, Stopping.HasNoneStaged}
 use Rattle.law_stations.proofs.Whole.{disks_with}
 

@@ -1,8 +1,7 @@
 -- The end of a staging file: its number decides whether its scan moved the cursor, and so whether it gets its name.
 use Rattle.std.proofs.Common.{◌≡◌, ◌⊎◌, inl, inr, refl, sym, subst, ap, ◌∙◌, ℕ, zero, suc, ◌+◌, ◌<◌, arith, Bool, true, false, List, [], ◌∷◌, ◌++◌, Option, Some, None}
 use Rattle.model_graph.specs.Walk.{Among}
-use Rattle.model_run.specs.Run.{nth}
-use Rattle.model_run.proofs.{Lists.not_both, Lists.nth-append, Targets.some_same}
+use Rattle.model_run.{specs.Run.nth, proofs.{Lists.{not_both, nth-append}, Targets.some_same}}
 use Rattle.law_stations.specs.{Disks.StagingFile, Disks.Disks, Disks.cursors, Disks.naming, Disks.with_packet, Nets.Net, Nets.Paired, Stopping.Ends, Stopping.EndsOne, Stopping.EndsSome, Stopping.now_named}
 use Rattle.law_stations.proofs.{Counting.IsItem, Counting.nones, Counting.same_as, Counting.times-append, Counting.waits, Counting.waits-append, Counting.waits-nones, Tracking.IsTagged, Tracking.PairedAround, Tracking.Tracks, Tracking.cursor-too, Tracking.paired-around, Pairs.paired-append}
 

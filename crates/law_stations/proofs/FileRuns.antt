@@ -6,8 +6,7 @@ use Rattle.echo_links.specs.Links.{LinkFile}
 use Rattle.echo_toss.specs.{PacketsIn.state_in, declared.fault.TossFault.TossFault, declared.tally.Tally.Tally, PacketSteps.PacketStep}
 use Rattle.model_steps.specs.SystemState.{SystemState}
 use Rattle.cmd_store.specs.{Coming.Coming, Coming.Fails, Coming.Holds, Coming.Unknown, TossRuns.TossesEachBy, TossRuns.TossesFileBy, TossedPacket.ReportsPacket, TossedPacket.TossRun, TossedPacket.TossesPacketBy}
-use Rattle.law_stations.specs.Commands.{TossesAll, itself}
-use Rattle.law_stations.proofs.Readings.{TossesFront, TossesPacketThere, TossesSo, tosses-so}
+use Rattle.law_stations.{specs.Commands.{TossesAll, itself}, proofs.Readings.{TossesFront, TossesPacketThere, TossesSo, tosses-so}}
 use Rattle.model_run.proofs.Targets.{none_some}
 
 -- the file was tossed whole

@@ -12,8 +12,7 @@ same-grows : (old new : List (List ℕ)) → new ≡ old → Grows old new
 same-grows old new same = ([], same ∙ sym (append-nil old))
 
 grows-on : (old mid new : List (List ℕ)) → Grows old mid → Grows mid new → Grows old new
-grows-on old mid new (first, is) (later, after) =
-    (first ++ later, after ∙ ap (λ (ps : List (List ℕ)). ps ++ later) is ∙ append_assoc old first later)
+grows-on old mid new (first, is) (later, after) = (first ++ later, after ∙ ap (λ (ps : List (List ℕ)). ps ++ later) is ∙ append_assoc old first later)
 
 naming-grows : (net : Net) (bytes : List ℕ) (b : Bool) → Grows net.packets (naming net bytes b).packets
 naming-grows net bytes true = same-grows net.packets net.packets refl

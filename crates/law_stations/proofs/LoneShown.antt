@@ -1,9 +1,7 @@
 -- The contents of one station, from the history of its system and its sent packets.
-use Rattle.std.proofs.Common.{◌≡◌, ◌⊎◌, inl, inr, refl, sym, subst, ap, ◌∙◌, ℕ, zero, suc, ◌≤◌, arith, List, [], ◌∷◌, take, drop}
-use Rattle.std.specs.Prelude.{false}
+use Rattle.std.{proofs.Common.{◌≡◌, ◌⊎◌, inl, inr, refl, sym, subst, ap, ◌∙◌, ℕ, zero, suc, ◌≤◌, arith, List, [], ◌∷◌, take, drop}, specs.Prelude.false}
 use Rattle.echo_addr.specs.declared.address.Address.{Address}
-use Rattle.model_graph.specs.Walk.{Among}
-use Rattle.model_graph.proofs.Members.{Among-append_right}
+use Rattle.model_graph.{specs.Walk.Among, proofs.Members.Among-append_right}
 use Rattle.echo_packet.specs.{declared.header.Header.Header, Message.Message}
 use Rattle.echo_links.specs.Links.{IsFile, LinkFile}
 use Rattle.echo_filed.specs.{declared.key.Key.Key, Filed.Filed, Filed.key_of, Filed.same_key, Stubs.is_stub, Stubs.stub_of}
@@ -104,8 +102,7 @@ module _ (commands : List LoneCommand) (file : LinkFile) (fits : IsFile file) (s
   kept-of : (m : Filed) → Among m z.system.base → (h : Filed) × Among h z.system.history × IsKept m h
   kept-of m i = Kept-back z.system.cursor z.system.base z.system.history ok.kept m i
 
-  came-here : (m : Filed) → Among m z.system.base →
-      (o : Filed) × HasCome s file o × ((m ≡ o) ⊎ IsLeftAlone commands (take z.system.cursor z.system.base) m o)
+  came-here : (m : Filed) → Among m z.system.base → (o : Filed) × HasCome s file o × ((m ≡ o) ⊎ IsLeftAlone commands (take z.system.cursor z.system.base) m o)
   came-here m i =
       let left = run-left file events in
       let (h, j, form) = left-scanned m z.purged_to z.system.cursor z.system.base z.system.history left.base left.purged_before i in (

@@ -1,14 +1,12 @@
 -- A scan stops before its base is committed, or commits it; then its packets wait for their names.
 use Rattle.std.proofs.Common.{◌≡◌, ◌≢◌, inl, inr, refl, sym, subst, ap, ◌∙◌, ℕ, zero, suc, ◌+◌, ◌≤◌, ◌<◌, arith, append-nil, append_assoc, length-append, List, [], ◌∷◌, ◌++◌, length, map, Option, Some}
-use Rattle.std.proofs.lemmas.{Bool.cases_lt, List.drop_all, List.length-map}
-use Rattle.std.specs.List.{AllByRecursion}
+use Rattle.std.{proofs.lemmas.{Bool.cases_lt, List.{drop_all, length-map}}, specs.List.AllByRecursion}
 use Rattle.base_file.specs.Base.{Base}
 use Rattle.model_graph.specs.Walk.{Among}
 use Rattle.echo_links.specs.Links.{LinkFile}
 use Rattle.echo_filed.specs.{Filed.Filed, Sets.address_set}
 use Rattle.model_steps.specs.{declared.stamp.Stamp.Stamp, PacketFiles.PacketFile, Scanning.packets_of, Scanning.recipients, Scanning.scanned}
-use Rattle.model_run.specs.Run.{change, nth}
-use Rattle.model_run.proofs.{Lists.nth-append, HarmLists.nth-changed as changed-there, Targets.some_same}
+use Rattle.model_run.{specs.Run.{change, nth}, proofs.{Lists.nth-append, HarmLists.nth-changed as changed-there, Targets.some_same}}
 use Rattle.base_store.specs.Store.{all_scanned}
 use Rattle.cmd_store.specs.PacketLines.{file_sent}
 use Rattle.law_stations.specs.{Nets.Net, Nets.Paired, Nets.Station, Nets.bytes_of, Nets.with_base, Nets.with_left, Disks.StagingFile, Disks.Disks, Disks.HasCursor, Disks.cursor_of, Disks.cursors, Commands.Scans, Stopping.IsOfNext, Stopping.Moves, Stopping.Writes, Stopping.staging_of}

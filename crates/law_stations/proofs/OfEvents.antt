@@ -1,9 +1,7 @@
 -- A posting, a scan and a purge at a station are events of the run.
 use Rattle.std.proofs.Common.{◌≡◌, inl, inr, refl, sym, subst, ap, ◌∙◌, ℕ, arith, cond, List, [], ◌∷◌, ◌++◌, append-nil, map, Option, Some, None}
-use Rattle.std.proofs.lemmas.Bool.{cond-true}
-use Rattle.std.specs.{Prelude.is_none, List.AllByRecursion}
-use Rattle.model_graph.specs.Walk.{Among}
-use Rattle.model_graph.proofs.Members.{Among-append_cases, Among-append_left, Among-append_right}
+use Rattle.std.{proofs.lemmas.Bool.cond-true, specs.{Prelude.is_none, List.AllByRecursion}}
+use Rattle.model_graph.{specs.Walk.Among, proofs.Members.{Among-append_cases, Among-append_left, Among-append_right}}
 use Rattle.echo_packet.specs.Header.{AreBytes}
 use Rattle.echo_links.specs.Links.{LinkFile}
 use Rattle.echo_filed.specs.Filed.{Filed}
@@ -21,8 +19,7 @@ use Rattle.law_stations.proofs.{Packets.scanned-fit, Pairs.paired-append, Pairs.
 is-filed : (file : LinkFile) (base : List Filed) (tag : List ℕ) (draft : Draft) (serial : ℕ) (stamp : Stamp) → post_refusal file base tag draft serial stamp ≡ None
     → posting file base tag draft serial stamp ≡ Some (posted file tag draft serial stamp)
 unfolding posting
-is-filed file base tag draft serial stamp allowed =
-    ap (λ (o : Option PostFault). cond (is_none o) (Some (posted file tag draft serial stamp)) None) allowed
+is-filed file base tag draft serial stamp allowed = ap (λ (o : Option PostFault). cond (is_none o) (Some (posted file tag draft serial stamp)) None) allowed
 
 pub posted-own : (file : LinkFile) (tag : List ℕ) (draft : Draft) (serial : ℕ) (stamp : Stamp) → (posted file tag draft serial stamp).sender ≡ None
 unfolding posted

@@ -8,8 +8,7 @@ use Rattle.echo_links.specs.Links.{LinkFile}
 use Rattle.model_steps.specs.{Posting.posted, SystemState.SystemState}
 use Rattle.base_store.specs.Store.{purged}
 use Rattle.echo_toss.specs.PacketsIn.{state_in}
-use Rattle.model_run.specs.Run.{change, nth, with_index}
-use Rattle.model_run.proofs.Lists.{any-from, with_index-from}
+use Rattle.model_run.{specs.Run.{change, nth, with_index}, proofs.Lists.{any-from, with_index-from}}
 use Rattle.cmd_store.specs.{declared.drafting.NewMessage.NewMessage, Coming.Coming, Coming.Fails, Coming.Holds, Coming.Unknown, Drafts.draft_given}
 use Rattle.law_stations.specs.Commands.{Command, IsAt, IsPacketAt, Leads, Post, Posts, Purge, Purges, Toss, Tosses, whole_of}
 use Rattle.law_stations.specs.{Nets.Net, Nets.Paired, Nets.Station, Nets.with_base, Nets.with_indexes, Nets.with_left, Nets.with_posting, Nets.with_tossed, Disks.Disks, Disks.cursor_of}
@@ -17,8 +16,7 @@ use Rattle.law_stations.proofs.{FileRuns.IsPartly, FileRuns.TossedFiles, FileRun
 
 same-cursors : (i : ℕ) (station : Station) (next : Base) (stations : List Station) → nth i stations ≡ Some station → next.cursor ≡ station.base.cursor
     → map cursor_of (change i (with_base next) stations) ≡ map cursor_of stations
-same-cursors i station next stations there same =
-    change-map cursor_of i (with_base next) station stations there same
+same-cursors i station next stations there same = change-map cursor_of i (with_base next) station stations there same
 
 there-too : (d : Disks) (net : Net) (i : ℕ) (station : Station) → d.net.stations ≡ net.stations → nth i d.net.stations ≡ Some station → nth i net.stations ≡ Some station
 there-too d net i station same there = subst (λ (ss : List Station). nth i ss ≡ Some station) same there

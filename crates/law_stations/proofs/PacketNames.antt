@@ -1,17 +1,14 @@
 -- Files under packets' names while the packets of earlier scans get theirs.
 use Rattle.std.proofs.Common.{◌≡◌, ◌≢◌, ◌⊎◌, inl, inr, ⊎_elim, ◌∙◌, ◌<◌, ◌≤◌, ◌+◌, refl, sym, subst, ap, ℕ, zero, suc, Bool, true, false, true≢false, List, [], ◌∷◌, ◌++◌, append-nil, append_assoc, arith, codes, get_or, length, length-append, Some, None}
-use Rattle.std.proofs.lemmas.Bool.{cases_Bool, cases_lt}
-use Rattle.std.proofs.lemmas.List.{append_cancel_left, get_or-append-add}
+use Rattle.std.proofs.lemmas.{Bool.{cases_Bool, cases_lt}, List.{append_cancel_left, get_or-append-add}}
 use Rattle.std.proofs.lemmas.List.Elements.{All-cons, All-contains, All-nil, Contains-append_right, Contains-get_or}
 use Rattle.std.specs.{Prelude.All, Prelude.Contains, Prelude.bytes_eq, Cmp.Lexicographic.bytes_decides}
 use Rattle.disk_io.specs.Disk.{DiskState, Files}
 use Rattle.disk_atomic.specs.{Finishing.EndsAs, Finishing.IsOfLeft, ListStaged.IsNameByte, ListStaged.IsNumbered, StagingPaths.staging_path, declared.finishing.Left.Left}
-use Rattle.model_graph.specs.Walk.{Among}
-use Rattle.model_graph.proofs.Members.{Among-append_cases, Among-append_left, Among-append_right}
+use Rattle.model_graph.{specs.Walk.Among, proofs.Members.{Among-append_cases, Among-append_left, Among-append_right}}
 use Rattle.model_run.proofs.Targets.{none_some, some_same}
 use Rattle.model_steps.specs.PacketFiles.{PacketFile}
-use Rattle.station_scan.specs.Left.{IsEnded, IsLeftOf}
-use Rattle.station_scan.specs.Scanning.{CommitsScan, PreparesScan}
+use Rattle.station_scan.specs.{Left.{IsEnded, IsLeftOf}, Scanning.{CommitsScan, PreparesScan}}
 use Rattle.station_scan.specs.{Publishing.IsOnDisk, Sending.IsFreeAt, Sending.IsStagingOfPacket, Sends.IsOfThese}
 use Rattle.law_stations.specs.{Disks.Disks, Disks.HasCursor, Disks.StagingFile, Disks.naming, Nets.Net, PacketNames.AreOfNet, PacketNames.IsPacketName, PacketNames.IsToName, PacketNames.ShowsPackets, Stopping.EndsOne, Stopping.EndsSome, Stopping.HasNoneStaged}
 use Rattle.law_stations.proofs.Ended.{cursor-stays}

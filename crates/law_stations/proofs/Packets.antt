@@ -1,14 +1,12 @@
 -- The packet files of a scan are packets.
 use Rattle.std.proofs.Common.{◌≡◌, ◌≢◌, refl, subst, ℕ, arith, List, [], ◌∷◌, ◌++◌, length, map, drop}
-use Rattle.std.proofs.{Math.Seq.take-append_seam, lemmas.List.drop_at, lemmas.List.Elements.All-from_recursion}
-use Rattle.std.specs.{Prelude.filter, List.AllByRecursion, List.flat_map}
+use Rattle.std.{proofs.{Math.Seq.take-append_seam, lemmas.List.{drop_at, Elements.All-from_recursion}}, specs.{Prelude.filter, List.{AllByRecursion, flat_map}}}
 use Rattle.echo_addr.specs.{declared.address.Address.Address, Address.IsAddress}
 use Rattle.echo_packet.specs.Message.{DateTime, FromName, Message, Subject, Text, ToName, before, message_bytes, messages_bytes, zero_ended}
 use Rattle.echo_packet.specs.{declared.header.Header.Header, Header.AreBytes, Header.IsHeader, Header.header_bytes, Header.word, Packet.packet_bytes}
 use Rattle.echo_packet.proofs.Headers.{AreBytes-drop, AreBytes-take, IsHeader-from_bytes}
 use Rattle.echo_links.specs.Links.{IsFile, LinkFile, links_of}
-use Rattle.echo_filed.specs.{Filed.Filed, Filed.IsFiled, Sets.address_before, Sets.address_set}
-use Rattle.echo_filed.proofs.{Bytes.text_no_zero, Plain.all_append, Sets.set_all}
+use Rattle.echo_filed.{specs.{Filed.{Filed, IsFiled}, Sets.{address_before, address_set}}, proofs.{Bytes.text_no_zero, Plain.all_append, Sets.set_all}}
 use Rattle.base_file.specs.Base.{IsBase}
 use Rattle.model_steps.specs.{Scanning.copy_to, Scanning.goes_to, Scanning.header_to, Scanning.packet_to, Scanning.packets_of, Scanning.recipients, Scanning.scanned, Scanning.targets, declared.packet.Packet.Packet, declared.stamp.Stamp.Stamp, PacketFiles.PacketFile}
 use Rattle.model_steps.proofs.Copies.{exported_is_echo, links_are_addresses, all_filter as all-filter, all_later as all-drop}
@@ -102,8 +100,7 @@ packets-fit file stamp waiting n fits all (a ∷ addresses) to bytes =
 
 targets-are : (file : LinkFile) → IsFile file → (m : Filed) → AllByRecursion IsAddress (targets file m)
 unfolding targets
-targets-are file fits m =
-    all-filter IsAddress _ (links_of file m.echo.tag) (links_are_addresses file fits m.echo.tag)
+targets-are file fits m = all-filter IsAddress _ (links_of file m.echo.tag) (links_are_addresses file fits m.echo.tag)
 
 all-targets : (file : LinkFile) → IsFile file → (ms : List Filed) → AllByRecursion IsAddress (flat_map (targets file) ms)
 all-targets file fits [] = tt

@@ -1,6 +1,5 @@
 -- Some of the waiting packets are at their paths: these get their names.
-use Rattle.std.proofs.Common.{◌≡◌, ◌⊎◌, inl, inr, refl, subst, ℕ, suc, ◌<◌, append-nil, append_assoc, List, [], ◌∷◌, ◌++◌, map}
-use Rattle.std.specs.List.{AllByRecursion}
+use Rattle.std.{proofs.Common.{◌≡◌, ◌⊎◌, inl, inr, refl, subst, ℕ, suc, ◌<◌, append-nil, append_assoc, List, [], ◌∷◌, ◌++◌, map}, specs.List.AllByRecursion}
 use Rattle.model_graph.specs.Walk.{Among}
 use Rattle.model_steps.specs.PacketFiles.{PacketFile}
 use Rattle.law_stations.specs.{Nets.Net, Nets.bytes_of, Disks.StagingFile, Disks.HasCursor, Disks.with_packet, Stopping.EndsSome, Stopping.staging_of}

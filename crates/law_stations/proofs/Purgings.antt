@@ -3,8 +3,7 @@ use Rattle.std.proofs.Common.{◌≡◌, ◌⊎◌, inl, inr, refl, sym, subst, 
 use Rattle.model_graph.specs.Walk.{Among}
 use Rattle.echo_filed.specs.{Filed.Filed, Stubs.stub_of}
 use Rattle.model_steps.specs.Purging.{purged}
-use Rattle.model_run.specs.Lone.{LoneEvent, LoneSystem, PurgeHere, after_all_lone, after_lone}
-use Rattle.model_run.proofs.Filings.{purged-cons, purged-empty, purged-none}
+use Rattle.model_run.{specs.Lone.{LoneEvent, LoneSystem, PurgeHere, after_all_lone, after_lone}, proofs.Filings.{purged-cons, purged-empty, purged-none}}
 
 -- the event is a purge
 abbrev pub IsPurge : LoneEvent → Type 0

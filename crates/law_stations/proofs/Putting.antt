@@ -4,8 +4,7 @@ use Rattle.model_graph.specs.Walk.{Among}
 use Rattle.echo_filed.specs.Filed.{Filed}
 use Rattle.base_file.specs.Base.{Base}
 use Rattle.model_steps.specs.declared.packet.Packet.{Packet}
-use Rattle.model_run.specs.Run.{Run, System, change, nth}
-use Rattle.model_run.proofs.{Histories.after-then, Histories.before-then, Histories.there-then, Lists.nth-among}
+use Rattle.model_run.{specs.Run.{Run, System, change, nth}, proofs.{Histories.{after-then, before-then, there-then}, Lists.nth-among}}
 use Rattle.law_stations.specs.{Nets.Net, Nets.Paired, Nets.Station, Nets.with_base, Nets.with_indexes, Agreement.Agrees, Agreement.HasPosting, Agreement.HasSystem, Agreement.IsPacketFile}
 use Rattle.law_stations.proofs.Pairs.{paired-put}
 

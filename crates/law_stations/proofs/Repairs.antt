@@ -1,17 +1,14 @@
 -- Rounds of repair on a net of stations are rounds of the model.
 use Rattle.std.proofs.Common.{◌≡◌, ◌≢◌, inl, inr, refl, sym, subst, ap, ◌∙◌, ℕ, zero, suc, ◌≤◌, arith, List, [], ◌∷◌, ◌++◌, length, map, Option, Some}
-use Rattle.std.proofs.lemmas.List.{length-map}
-use Rattle.std.specs.{Prelude.IsTrue, Prelude.filter, List.AllByRecursion}
+use Rattle.std.{proofs.lemmas.List.length-map, specs.{Prelude.{IsTrue, filter}, List.AllByRecursion}}
 use Rattle.echo_addr.specs.{declared.address.Address.Address, Address.IsAddress}
 use Rattle.cmd_status.specs.Inputs.{AreLinkFiles}
 use Rattle.model_graph.specs.Walk.{Among, Different}
 use Rattle.echo_packet.specs.Header.{AreBytes}
 use Rattle.echo_links.specs.Links.{LinkFile, has_area, is_link, links_of}
-use Rattle.echo_filed.specs.{declared.key.Key.Key, Filed.Filed, Filed.IsFiled, Filed.key_of}
-use Rattle.echo_filed.proofs.Plain.{all_append}
+use Rattle.echo_filed.{specs.{declared.key.Key.Key, Filed.{Filed, IsFiled, key_of}}, proofs.Plain.all_append}
 use Rattle.base_file.specs.Base.{Base, is_known}
-use Rattle.model_steps.specs.{declared.packet.Packet.Packet, declared.stamp.Stamp.Stamp, Scanning.copy_to}
-use Rattle.model_steps.proofs.Copies.{all_filter, links_are_addresses}
+use Rattle.model_steps.{specs.{declared.{packet.Packet.Packet, stamp.Stamp.Stamp}, Scanning.copy_to}, proofs.Copies.{all_filter, links_are_addresses}}
 use Rattle.model_run.specs.{Event.RunEvent, Orderly.count, Orderly.origin, Run.Run, Run.System, Run.after_events, Run.destination, Run.nth, States.IsState}
 use Rattle.model_run.specs.Repair.{AreJoined, AreLinked, AreRepairRounds, AreRounds, Besides, HasReached, HasWhole, IsNoPurge, IsNowhereStub, IsRepairRound, IsRound, RepairEvent, ResendAll, after_repair, after_repairs, is_lacking, rest_packet, resending}
 use Rattle.model_run.specs.Repair as model

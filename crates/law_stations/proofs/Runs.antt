@@ -1,6 +1,5 @@
 -- Each command that was run on a station does what its command event may do.
-use Rattle.std.proofs.Common.{◌≡◌, inl, inr, ◌∙◌, sym, subst, arith, ℕ, Bool, List, length, take, Option, Result, Ok, slice_get}
-use Rattle.std.proofs.lemmas.List.{take_all}
+use Rattle.std.proofs.{Common.{◌≡◌, inl, inr, ◌∙◌, sym, subst, arith, ℕ, Bool, List, length, take, Option, Result, Ok, slice_get}, lemmas.List.take_all}
 use Rattle.std.specs.Prelude.{OnOk}
 use Rattle.base_file.specs.Base.{Base}
 use Rattle.disk_io.specs.Disk.{DiskState}

@@ -1,12 +1,11 @@
 -- A scan on a station as a command event.
 use Rattle.std.proofs.Common.{◌≡◌, ◌⊎◌, inl, inr, ⊎_elim, ◌∙◌, ◌<◌, refl, sym, subst, ap, ℕ, zero, suc, append-nil, arith, List, [], ◌∷◌, ◌++◌, length, map, Some, Result, Ok, Err}
-use Rattle.std.proofs.lemmas.List.Elements.{All-contains, recursion_from_All}
-use Rattle.std.specs.{Prelude.All, Prelude.IfErr, Prelude.OnOk, List.AllByRecursion}
+use Rattle.std.{proofs.lemmas.List.Elements.{All-contains, recursion_from_All}, specs.{Prelude.{All, IfErr, OnOk}, List.AllByRecursion}}
 use Rattle.base_file.specs.Base.{Base}
 use Rattle.disk_io.specs.{Disk.DiskState, Disk.Files, Runs.LeavesOnly}
 use Rattle.echo_links.specs.{Links.LinkFile, LinkLines.LinksOf}
 use Rattle.disk_atomic.specs.{Finishing.IsOfLeft, declared.finishing.Left.Left, StagingPaths.dotted, StagingPaths.staging_path}
-use Rattle.model_run.specs.Run.{nth}
+use Rattle.model_run.{specs.Run.nth, proofs.{HarmLists.nth-changed as changed-there, Targets.{some_same, none_some}}}
 use Rattle.cmd_status.specs.{declared.fault.Fault.Fault, Devices.Output}
 use Rattle.model_steps.specs.{PacketFiles.PacketFile, declared.stamp.Stamp.Stamp}
 use Rattle.base_store.specs.Store.{all_scanned}
@@ -17,7 +16,6 @@ use Rattle.station_scan.specs.Scanning.{AreSentOut, CommitsScan, IsOnItsWay, IsP
 use Rattle.station_scan.specs.{Left.IsLeftOf, Publishing.IsOnDisk, Publishing.UnchangedExcept, Sending.IsFreeAt, Sending.HasBytes, Sending.IsStagingOfPacket, Sending.IsOfPacket, Sending.IsWhole, Sends.IsOfThese, Stops.IsOfPlacing, Stops.as_scan, Stops.most, declared.scan_error.ScanError.ScanError, declared.scan_error.ScanError.TheVariants.Command, declared.scan_error.ScanError.TheVariants.Staying}
 use Rattle.law_stations.specs.{Scans.AreAfterScan, Scans.IsBeforeCommit, Scans.KeepsPackets, PacketNames.AreOfNet, PacketNames.IsListed, PacketNames.ShowsPackets, Scans.IsAfterScan, Scans.IsAtPath, Scans.IsStagingPath, Scans.ScansAsEvent, Scans.ScansAsMay, Scans.with_packets_in, Nets.Station, Nets.bytes_of, Nets.with_base, Nets.with_left, Disks.Disks, Disks.HasCursor, Disks.cursor_of, Stopping.EndsSome, Stopping.HasNoneStaged, Stopping.Moves, Stopping.staging_of, OnDisks.IsLinkedOn, OnDisks.IsStationAt, OnDisks.ReadsLinks, OnDisks.ShowsStation}
 use Rattle.law_stations.proofs.{PacketNames.as-seen, PacketNames.before-commit, PacketNames.while-preparing, Systems.one-file, Elsewhere.some-stations, Moving.some-waits, Parted.Parted, Parted.all-named, Parted.parted, Whole.disks_with, Whole.with_packets}
-use Rattle.model_run.proofs.{HarmLists.nth-changed as changed-there, Targets.some_same, Targets.none_some}
 
 left-away : (is_true : Type 0) (Own : List ℕ → Type 0) (outbound own : List ℕ) (found : List Left) → All (IsLeftOf is_true Own outbound own) found → (m : List ℕ) → (IsTouched Own outbound m → ⊥) → IsOfLeft found m → ⊥
 left-away is_true Own outbound own found each m away (l, has, is) = by (All-contains (IsLeftOf is_true Own outbound own) found l each has) is

@@ -1,6 +1,5 @@
 -- A scan that met a fault leaves the station unchanged.
-use Rattle.std.proofs.Common.{◌≡◌, ◌<◌, ◌⊎◌, ◌∙◌, subst, ℕ, List, Result, Ok, Err, arith}
-use Rattle.std.specs.Prelude.{IfErr}
+use Rattle.std.{proofs.Common.{◌≡◌, ◌<◌, ◌⊎◌, ◌∙◌, subst, ℕ, List, Result, Ok, Err, arith}, specs.Prelude.IfErr}
 use Rattle.disk_io.specs.Disk.{DiskState, Files}
 use Rattle.echo_links.specs.Links.{LinkFile}
 use Rattle.cmd_status.specs.{declared.fault.Fault.Fault, Devices.Output}

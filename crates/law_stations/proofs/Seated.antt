@@ -1,12 +1,10 @@
 -- The effect of a step on a disk on the stations there, and on those on other disks.
-use Rattle.std.proofs.Common.{◌≡◌, ◌≢◌, inl, inr, ⊎_elim, ◌∙◌, sym, subst, ap, ℕ, List, Option, Some, None, arith}
-use Rattle.std.proofs.lemmas.Bool.{cases_eq}
+use Rattle.std.proofs.{Common.{◌≡◌, ◌≢◌, inl, inr, ⊎_elim, ◌∙◌, sym, subst, ap, ℕ, List, Option, Some, None, arith}, lemmas.Bool.cases_eq}
 use Rattle.disk_io.specs.Disk.{DiskState, Files}
-use Rattle.model_run.specs.Run.{change, nth}
+use Rattle.model_run.{specs.Run.{change, nth}, proofs.{HarmLists.nth-changed as changed-there, Targets.some_same}}
 use Rattle.station.specs.Place.{Place}
 use Rattle.law_stations.specs.{Seats.AreNeighbours, Seats.AreSeated, Seats.IsShared, Seats.Seat, Seats.RepresentsSeat, Seats.reach, Commands.Command, Commands.CommandEvent, Commands.Purge, Disks.Disks, Stopping.MayHappen, Neighbours.RepresentsOnDisk, Neighbours.StaysOnDisk, OnDisks.LeavesElsewhere, OnDisks.ShowsStation, Steps.HasCrashed, Steps.HasEnded, Steps.IsAllOnDisk, Steps.IsOn, Steps.MayLead, Steps.WasCut, Steps.WereOthers}
 use Rattle.law_stations.proofs.{Elsewhere.change-other, Elsewhere.elsewhere, Neighbours.others-stay}
-use Rattle.model_run.proofs.{HarmLists.nth-changed as changed-there, Targets.some_same}
 
 -- files show the station if the net has the same station
 abbrev shows-too : (place : Place) (links : List ℕ) (i : ℕ) (c : Files) (d next : Disks) → nth i next.net.stations ≡ nth i d.net.stations → ShowsStation place links i c d

@@ -1,13 +1,11 @@
 -- The contents of nets without crashes are those of the disks over crashes.
-use Rattle.std.proofs.Common.{◌≡◌, inl, inr, refl, sym, subst, ap, ◌∙◌, ℕ, ◌+◌, ◌≤◌, arith, append-nil, List, [], ◌∷◌, map, Some}
-use Rattle.std.specs.Prelude.{if◌then◌else◌}
+use Rattle.std.{proofs.Common.{◌≡◌, inl, inr, refl, sym, subst, ap, ◌∙◌, ℕ, ◌+◌, ◌≤◌, arith, append-nil, List, [], ◌∷◌, map, Some}, specs.Prelude.if◌then◌else◌}
 use Rattle.echo_addr.specs.declared.address.Address.{Address}
 use Rattle.model_graph.specs.Walk.{Among, Different}
 use Rattle.echo_links.specs.Links.{LinkFile, same_address}
 use Rattle.echo_filed.specs.{declared.key.Key.Key, Filed.Filed}
 use Rattle.model_steps.specs.declared.packet.Packet.{Packet}
-use Rattle.model_run.specs.{Orderly.copies, Orderly.count, Orderly.sent_count, Run.destination, Run.nth}
-use Rattle.model_run.proofs.{Lists.nth-among, HarmLists.nth-map}
+use Rattle.model_run.{specs.{Orderly.{copies, count, sent_count}, Run.{destination, nth}}, proofs.{Lists.nth-among, HarmLists.nth-map}}
 use Rattle.law_stations.specs.{Commands.Command, Commands.CommandEvent, Commands.Post, Commands.Purge, Commands.Scan, Commands.Toss, OverCrashes.HasNet, OverCrashes.IsLike, OverCrashes.IsLikeEvent, OverCrashes.SoundOverCrashes, Nets.Net, Nets.Paired, Nets.Station, Disks.Disks, InOrder.IsSound, InOrder.IsUnchanged, InOrder.ReadsAs, InOrder.StationHolds, InOrder.WasPurged}
 use Rattle.law_stations.proofs.{Pairs.paired-among, Pairs.paired-nth, Readings.one-packet, Sound.nets-are-sound, Counting.IsItem, Counting.picked-total, Counting.total, EachCommand.crashes-are-none}
 

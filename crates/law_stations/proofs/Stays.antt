@@ -1,8 +1,7 @@
 -- The contents of one station stay.
 use Rattle.std.proofs.Common.{◌≡◌, ◌⊎◌, inl, inr, refl, sym, subst, ap, ◌∙◌, ℕ, zero, suc, ◌<◌, ◌≤◌, arith, List, [], ◌∷◌, ◌++◌, map, Some}
 use Rattle.std.proofs.lemmas.List.{map-append}
-use Rattle.model_graph.specs.Walk.{Among}
-use Rattle.model_graph.proofs.Members.{Among-append_cases, Among-append_left, Among-append_right}
+use Rattle.model_graph.{specs.Walk.Among, proofs.Members.{Among-append_cases, Among-append_left, Among-append_right}}
 use Rattle.echo_packet.specs.Packet.{packet_bytes}
 use Rattle.echo_links.specs.Links.{IsFile, LinkFile}
 use Rattle.echo_filed.specs.{Filed.Filed, Stubs.stub_of}
@@ -32,8 +31,7 @@ left-at (suc n) (suc i) (x ∷ ms) m e =
 leaves-at : (n i : ℕ) (ms : List Filed) (h : Filed) → nth i ms ≡ Some h → (m : Filed) × (nth i (purged ms n) ≡ Some m) × IsLeftAt n i h m
 leaves-at zero i ms h e = (h, ap (λ (ns : List Filed). nth i ns) (purged-none ms) ∙ e, inr (omega arith, refl))
 leaves-at (suc n) i [] h e = absurd (none_some e)
-leaves-at (suc n) zero (x ∷ ms) h e =
-    (stub_of x, ap (λ (ns : List Filed). nth 0 ns) (purged-cons x ms n), inl (omega arith, ap stub_of (some_same e)))
+leaves-at (suc n) zero (x ∷ ms) h e = (stub_of x, ap (λ (ns : List Filed). nth 0 ns) (purged-cons x ms n), inl (omega arith, ap stub_of (some_same e)))
 leaves-at (suc n) (suc i) (x ∷ ms) h e =
     let (m, there, left) = leaves-at n i ms h e in (
       m,

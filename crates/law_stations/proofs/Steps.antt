@@ -1,9 +1,7 @@
 -- A command on one station is some events of the system by itself.
-use Rattle.std.proofs.Common.{◌≡◌, inl, inr, refl, sym, subst, ap, ℕ, true, List, [], ◌∷◌, ◌++◌, length, Ok}
-use Rattle.std.proofs.lemmas.List.{append-nil, append_assoc}
+use Rattle.std.proofs.{Common.{◌≡◌, inl, inr, refl, sym, subst, ap, ℕ, true, List, [], ◌∷◌, ◌++◌, length, Ok}, lemmas.List.{append-nil, append_assoc}}
 use Rattle.std.specs.Prelude.{Bool, false, if◌then◌else◌}
-use Rattle.model_graph.specs.Walk.{Among}
-use Rattle.model_graph.proofs.Members.{Among-append_cases, Among-append_left, Among-append_right}
+use Rattle.model_graph.{specs.Walk.Among, proofs.Members.{Among-append_cases, Among-append_left, Among-append_right}}
 use Rattle.echo_links.specs.{Links.LinkFile, LinkLines.LinksOf}
 use Rattle.model_steps.specs.{declared.stamp.Stamp.Stamp, Scanning.scanned, Stamps.is_stamp, SystemState.SystemState}
 use Rattle.echo_toss.specs.PacketsIn.{state_in}

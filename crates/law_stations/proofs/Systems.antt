@@ -1,7 +1,6 @@
 -- The system of a station: both have the same contents.
 use Rattle.std.proofs.Common.{◌≡◌, sym, subst, ℕ, List, Ok, arith}
-use Rattle.echo_links.specs.{Links.IsFile, Links.LinkFile, LinkLines.LinksOf}
-use Rattle.echo_links.proofs.{LinkAnswers.link_only, LinkFiles.file_is_file}
+use Rattle.echo_links.{specs.{Links.{IsFile, LinkFile}, LinkLines.LinksOf}, proofs.{LinkAnswers.link_only, LinkFiles.file_is_file}}
 use Rattle.echo_filed.specs.Filed.{Filed}
 use Rattle.model_steps.specs.SystemState.{SystemState}
 use Rattle.model_run.specs.Run.{System, state_of}

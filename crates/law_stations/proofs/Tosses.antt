@@ -1,10 +1,8 @@
 -- A toss of any files is a toss of messages in them.
 use Rattle.std.proofs.Common.{◌≡◌, inl, inr, refl, sym, subst, ap, ◌∙◌, ℕ, zero, suc, arith, List, [], ◌∷◌, ◌++◌, length, take, Option, Some, None}
-use Rattle.std.proofs.lemmas.List.{take_all}
-use Rattle.std.specs.List.{AllByRecursion}
+use Rattle.std.{proofs.lemmas.List.take_all, specs.List.AllByRecursion}
 use Rattle.echo_addr.specs.declared.address.Address.{Address}
-use Rattle.model_graph.specs.Walk.{Among}
-use Rattle.model_graph.proofs.Members.{Among-append_cases, Among-append_left, Among-append_right}
+use Rattle.model_graph.{specs.Walk.Among, proofs.Members.{Among-append_cases, Among-append_left, Among-append_right}}
 use Rattle.echo_packet.specs.{declared.header.Header.Header, declared.limits.Limits.Limits, Message.HasNoZero, Message.IsMessage, Message.Message, Packet.PacketOf}
 use Rattle.echo_links.specs.Links.{IsFile, LinkFile}
 use Rattle.base_file.specs.Base.{IsBase}

@@ -5,8 +5,7 @@ use Rattle.model_graph.specs.Walk.{Among}
 use Rattle.echo_packet.specs.Message.{Message}
 use Rattle.echo_filed.specs.{Filed.Filed, Stubs.stub_of}
 use Rattle.model_steps.specs.Tossing.{tossing}
-use Rattle.model_run.specs.Run.{System, change, filing, nth, tossing_at}
-use Rattle.model_run.proofs.{Bases.IsKept, Bases.Kept, Lists.nth-change}
+use Rattle.model_run.{specs.Run.{System, change, filing, nth, tossing_at}, proofs.{Bases.{IsKept, Kept}, Lists.nth-change}}
 
 -- the system has its messages as they were filed
 abbrev pub IsAsFiled : System → Type 0

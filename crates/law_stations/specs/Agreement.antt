@@ -10,8 +10,7 @@ use Rattle.model_steps.specs.declared.packet.Packet.{Packet}
 use Rattle.model_run.specs.{Event.Delivery, Event.PartDelivery, Event.Posting, Event.Purging, Event.RunEvent, Event.Scanning, Run.Run, Run.System, Run.after_events, Run.run_of}
 use Rattle.cmd_status.specs.Inputs.{AreLinkFiles}
 use Rattle.cmd_store.specs.Drafts.{draft_given}
-use Rattle.law_stations.specs.Commands.{Command, CommandEvent, Happen, Happens, Post, Purge, Scan, Toss}
-use Rattle.law_stations.specs.Nets.{Net, Paired, Station, first_net}
+use Rattle.law_stations.specs.{Commands.{Command, CommandEvent, Happen, Happens, Post, Purge, Scan, Toss}, Nets.{Net, Paired, Station, first_net}}
 
 -- The messages and the cursor of a system.
 abbrev pub base_of : System → Base

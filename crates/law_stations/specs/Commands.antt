@@ -1,6 +1,5 @@
 -- The effect of a command on a net of stations: it changes the base of one station, and commits it there.
-use Rattle.std.specs.Prelude.{◌≡◌, ℕ, ◌⊎◌, ◌+◌, ◌-◌, Bool, true, List, [], ◌∷◌, length, map, take, Option, Some, None, Ok}
-use Rattle.std.specs.List.{AllByRecursion}
+use Rattle.std.specs.{Prelude.{◌≡◌, ℕ, ◌⊎◌, ◌+◌, ◌-◌, Bool, true, List, [], ◌∷◌, length, map, take, Option, Some, None, Ok}, List.AllByRecursion}
 use Rattle.base_file.specs.Base.{Base}
 use Rattle.echo_packet.specs.{Header.AreBytes, declared.limits.Limits.Limits}
 use Rattle.echo_links.specs.{Links.LinkFile, LinkLines.LinksOf}

@@ -24,8 +24,7 @@ pub record HasNet (d : Disks) (net : Net) : Type 0 where
   pub places : List ℕ
   pub named : Paired (λ bytes k. nth k net.packets ≡ Some bytes) d.net.packets places
   pub once : Different places
-  pub all : (k : ℕ) (bytes : List ℕ) → nth k net.packets ≡ Some bytes →
-      Among k places ⊎ ((file : StagingFile) × IsToBeNamed d file × (file.bytes ≡ bytes))
+  pub all : (k : ℕ) (bytes : List ℕ) → nth k net.packets ≡ Some bytes → Among k places ⊎ ((file : StagingFile) × IsToBeNamed d file × (file.bytes ≡ bytes))
   pub tossed : (j k : ℕ) → nth j places ≡ Some k → Among j d.net.delivered → Among k net.delivered
 
 -- A toss may be of other packets.

@@ -1,6 +1,5 @@
 -- Repair on a net of stations, from any state on.
-use Rattle.std.specs.Prelude.{◌≡◌, ◌≢◌, ◌⊎◌, ℕ, zero, suc, ◌≤◌, IsTrue, List, [], ◌∷◌, length, map, Some}
-use Rattle.std.specs.List.{AllByRecursion}
+use Rattle.std.specs.{Prelude.{◌≡◌, ◌≢◌, ◌⊎◌, ℕ, zero, suc, ◌≤◌, IsTrue, List, [], ◌∷◌, length, map, Some}, List.AllByRecursion}
 use Rattle.echo_addr.specs.declared.address.Address.{Address}
 use Rattle.cmd_status.specs.Inputs.{AreLinkFiles}
 use Rattle.model_graph.specs.Walk.{Among, Different}

@@ -1,8 +1,6 @@
 -- A walk around a member stays on one side of it: links of b that a walk joins around b are in one block at b.
-use Rattle.std.proofs.Common.{◌≡◌, ◌≢◌, ◌<◌, ◌≤◌, ℕ, zero, suc, Bool, IsTrue, [], ◌∷◌, refl, sym, ◌∙◌, subst, arith, inl, inr}
-use Rattle.std.proofs.lemmas.Bool.{cases_eq}
-use Rattle.model_graph.specs.Blocks.{AreBlocks, AreFull, OnOneSide, IsInFull, IsCovered}
-use Rattle.model_graph.specs.{Walk.Among, Walk.Simple, Beyond.Around, Pinches.IsPinch}
+use Rattle.std.proofs.{Common.{◌≡◌, ◌≢◌, ◌<◌, ◌≤◌, ℕ, zero, suc, Bool, IsTrue, [], ◌∷◌, refl, sym, ◌∙◌, subst, arith, inl, inr}, lemmas.Bool.cases_eq}
+use Rattle.model_graph.specs.{Blocks.{AreBlocks, AreFull, OnOneSide, IsInFull, IsCovered}, Walk.{Among, Simple}, Beyond.Around, Pinches.IsPinch}
 use Rattle.model_graph.proofs.Members.{linked_differ, Around-keeps, Around-sym}
 
 -- x hangs below b in block k: the n-th member up from x is in k, its top is b, and no member on the way is b

@@ -1,8 +1,7 @@
 -- Cycles: each is a full polygon exactly if links that are not linked are parted.
 use Rattle.std.proofs.Common.{◌≡◌, ◌≢◌, inl, inr, refl, sym, subst, ◌∙◌, arith, Bool, IsTrue, List, [], ◌∷◌, ◌++◌, length-append, ◌⊎◌, ◌<◌, ◌≤◌, length, ◌↔◌, ℕ, zero, suc}
 use Rattle.std.proofs.lemmas.Bool.{cases_Bool, both_ways}
-use Rattle.model_graph.specs.Walk.{Simple, Among, Different, Walk, Reaches}
-use Rattle.model_graph.specs.Beyond.{Around, Parted, AllParted, FirstStep, Beyond, IsWay, HasOneWay}
+use Rattle.model_graph.specs.{Walk.{Simple, Among, Different, Walk, Reaches}, Beyond.{Around, Parted, AllParted, FirstStep, Beyond, IsWay, HasOneWay}}
 use Rattle.model_graph.specs.Cycle.{Cycle, NoCycle, Polygons}
 use Rattle.model_graph.proofs.Members.{CanTell, Among-append_left, Among-append_cases, Different-push, link_to, link_from, walk_append, walk_ends, Around-without_repeats, Around-sym, Beyond-from_no_around, no_around-from_Beyond, linked_differ, Among-at, Reaches-link, part_from, part_behind, Around-step, Around-trans}
 
@@ -70,8 +69,7 @@ module _ {A : Type 0} (can : CanTell A) (linked : A → A → Bool) (simple : Si
     where
       closes : (rest : List A) → Walk linked a rest c → ¬ Among b (a ∷ rest) → Different (a ∷ rest) → ⊥
       closes [] w avoids different = other w
-      closes (d ∷ rest) w avoids different =
-          none b (a ∷ d ∷ rest) (grind arith)
+      closes (d ∷ rest) w avoids different = none b (a ∷ d ∷ rest) (grind arith)
 
   module _ (parted : Parted linked) where
     first_third : (first second third : A) (rest : List A) → Cycle linked first (second ∷ third ∷ rest) → IsTrue (linked first third)
@@ -97,8 +95,7 @@ module _ {A : Type 0} (can : CanTell A) (linked : A → A → Bool) (simple : Si
           | inr t ↦ first_linked first (third ∷ fourth ∷ rest) (second_left_out first second third fourth rest cycle) x t
         ]
 
-    second_linked : (first second : A) (rest : List A) → Cycle linked first (second ∷ rest) → (x y : A) → x ≡ second → Among y rest →
-        IsTrue (linked x y)
+    second_linked : (first second : A) (rest : List A) → Cycle linked first (second ∷ rest) → (x y : A) → x ≡ second → Among y rest → IsTrue (linked x y)
     second_linked first second rest cycle x y e h =
         let turned = cycle_turned linked first second rest cycle in
         link_from linked second x y (sym e) (first_linked second (rest ++ first ∷ []) turned y (Among-append_left y rest (first ∷ []) h))
@@ -199,8 +196,7 @@ module _ {A : Type 0} (can : CanTell A) (linked : A → A → Bool) (simple : Si
             ]))
       ]
 
-  pub link_of_way-not_beyond : (f y u c : A) → Reaches linked y f → IsWay linked f y u → IsTrue (linked y c) → IsTrue (linked u c) →
-      ¬ Beyond linked y f c
+  pub link_of_way-not_beyond : (f y u c : A) → Reaches linked y f → IsWay linked f y u → IsTrue (linked y c) → IsTrue (linked u c) → ¬ Beyond linked y f c
   link_of_way-not_beyond f y u c reaches to_u link joined beyond =
       let around = Around-from_IsWay f y u reaches to_u in
       no_around-from_Beyond linked y f c beyond
@@ -209,8 +205,7 @@ module _ {A : Type 0} (can : CanTell A) (linked : A → A → Bool) (simple : Si
   pub way-not_beyond : (f y u : A) → Reaches linked y f → IsWay linked f y u → ¬ Beyond linked y f u
   way-not_beyond f y u reaches to_u beyond = no_around-from_Beyond linked y f u beyond (Around-from_IsWay f y u reaches to_u)
 
-  pub further : (f y c d : A) → Reaches linked y f → IsTrue (linked y c) → Beyond linked y f c → Beyond linked c f d → d ≢ c →
-      (d ≢ y) × (¬ IsTrue (linked y d))
+  pub further : (f y c d : A) → Reaches linked y f → IsTrue (linked y c) → Beyond linked y f c → Beyond linked c f d → d ≢ c → (d ≢ y) × (¬ IsTrue (linked y d))
   further f y c d reaches link beyond_y beyond_c other =
       let from_c = Reaches-link linked simple y c f link reaches in
       let around = Around-from_Beyond f c y (linked_differ linked simple y c link) from_c beyond_y in
@@ -240,8 +235,7 @@ module _ {A : Type 0} (can : CanTell A) (linked : A → A → Bool) (simple : Si
         (u, to_u, λ v to_v. one_way f y v u reaches to_v to_u)
 
     -- each other link is a link of the way, or lies beyond
-    pub link_cases : (f y u c : A) → Reaches linked y f → IsWay linked f y u → IsTrue (linked y c) → c ≢ u →
-        IsTrue (linked u c) ⊎ Beyond linked y f c
+    pub link_cases : (f y u c : A) → Reaches linked y f → IsWay linked f y u → IsTrue (linked y c) → c ≢ u → IsTrue (linked u c) ⊎ Beyond linked y f c
     link_cases f y u c reaches to_u link other =
         elim (cases_Bool (linked u c)) [
           | inl joined ↦ inl joined
@@ -252,8 +246,7 @@ module _ {A : Type 0} (can : CanTell A) (linked : A → A → Bool) (simple : Si
               no_around-from_Beyond linked y c u apart to_c))
         ]
 
-    pub beyond_or_link : (f y u c : A) → Reaches linked y f → IsWay linked f y u → IsTrue (linked y c) → c ≢ u →
-        Beyond linked y f c ↔ (¬ IsTrue (linked u c))
+    pub beyond_or_link : (f y u c : A) → Reaches linked y f → IsWay linked f y u → IsTrue (linked y c) → c ≢ u → Beyond linked y f c ↔ (¬ IsTrue (linked u c))
     beyond_or_link f y u c reaches to_u link other = (
       λ beyond joined. link_of_way-not_beyond f y u c reaches to_u link joined beyond,
       λ none. elim (link_cases f y u c reaches to_u link other) [ inl joined ↦ absurd (none joined) | inr beyond ↦ beyond ],

@@ -2,8 +2,7 @@
 use Rattle.std.proofs.Common.{◌≡◌, ◌≢◌, ◌<◌, ◌≤◌, ◌++◌, ℕ, suc, Bool, IsTrue, Option, Some, List, [], ◌∷◌, length, get_or, refl, sym, ap, ◌∙◌, subst, arith, inl, inr}
 use Rattle.std.proofs.lemmas.Bool.{cases_eq, cases_lt}
 use Rattle.model_graph.specs.{Walk.Among, Walk.Different, Walk.Walk, Walk.Simple, Rows.links_at, Rows.linked, Rows.IsGraph, Levels.level_of, Floods.Searched, Descents.SmallestAt, Descents.Descent}
-use Rattle.model_graph.specs.Loops.{NoLater, FirstWalk}
-use Rattle.model_graph.proofs.{Floods.one_level, PinchSearch.row_link, PinchSearch.row_place, PinchSearch.row_rises}
+use Rattle.model_graph.{specs.Loops.{NoLater, FirstWalk}, proofs.{Floods.one_level, PinchSearch.{row_link, row_place, row_rises}}}
 
 pub Descent-push : (links : ℕ → ℕ → Bool) (levels : List (Option ℕ)) (rest : List ℕ) (a z d m : ℕ) → Descent links levels a rest z → level_of levels z ≡ Some (suc m) → SmallestAt links levels z m d → Descent links levels a (rest ++ d ∷ []) d
 Descent-push links levels [] a z d m same e s =

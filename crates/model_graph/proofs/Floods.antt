@@ -1,11 +1,9 @@
 -- The links of one member get a level if they have none yet, and join the queue.
 use Rattle.std.proofs.Common.{◌≡◌, ◌≢◌, ◌==◌, ◌+◌, ◌<◌, ◌++◌, ◌⊎◌, ℕ, zero, suc, true, false, IsTrue, Option, Some, None, is_some, List, [], ◌∷◌, length, get_or, set, refl, sym, ap, ◌∙◌, subst, arith, inl, inr, ◌≤◌, Bool, MatchOption}
 use Rattle.std.proofs.lemmas.List.{get_or_past, length_push, get_or_push, get_or-set_same, get_or-set_other, length-set, get_or_append_left}
-use Rattle.std.proofs.lemmas.{Bool.cases_eq, Bool.cases_lt, Bool.true≢false, Bool.false≢true, Option.none-some, Option.same_Some}
-use Rattle.std.specs.List.{list_any}
+use Rattle.std.{proofs.lemmas.{Bool.{cases_eq, cases_lt, true≢false, false≢true}, Option.{none-some, same_Some}}, specs.List.list_any}
 use Rattle.model_graph.specs.{Levels.level_of, Levels.Distance, Levels.AreLevels, Visits.Visited, Visits.unlevelled, Rows.links_at, Rows.linked, Rows.IsGraph}
-use Rattle.model_graph.specs.{Floods.Flooding, Floods.IsSettledFlood, Floods.Flooded, Floods.Searched, Walk.Among, Walk.Walk, Beyond.Around}
-use Rattle.model_graph.proofs.Rows.{holds_at, place_of}
+use Rattle.model_graph.{specs.{Floods.{Flooding, IsSettledFlood, Flooded, Searched}, Walk.{Among, Walk}, Beyond.Around}, proofs.Rows.{holds_at, place_of}}
 
 pub level_within : (levels : List (Option ℕ)) (i m : ℕ) → level_of levels i ≡ Some m → i < length levels
 level_within levels i m e = grind (arith, cases_lt, none-some, get_or_past)

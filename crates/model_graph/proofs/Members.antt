@@ -1,8 +1,7 @@
 -- Members of a list, and lists without repeats.
 use Rattle.std.proofs.Common.{◌≡◌, ◌≢◌, ◌⊎◌, inl, inr, refl, sym, subst, ℕ, zero, suc, ◌<◌, arith, length, get_or, Contains, List, [], ◌∷◌, ◌++◌, ◌∙◌, ◌≤◌, Bool, IsTrue}
 use Rattle.std.proofs.lemmas.Bool.{cases_eq}
-use Rattle.model_graph.specs.Walk.{Among, Different, Simple, Walk, Reaches, Connected}
-use Rattle.model_graph.specs.Beyond.{Around, Beyond}
+use Rattle.model_graph.specs.{Walk.{Among, Different, Simple, Walk, Reaches, Connected}, Beyond.{Around, Beyond}}
 
 abbrev pub CanTell : Type 0 → Type 0
 CanTell A = (x y : A) → (x ≡ y) ⊎ (x ≢ y)
@@ -85,8 +84,7 @@ module _ {A : Type 0} (linked : A → A → Bool) where
   walk_ends a [] b w = inl (sym w)
   walk_ends a (c ∷ rest) b w = inr (walk_ends c rest b w.1)
 
-  pub walk_append : (a : A) (rest : List A) (b : A) (more : List A) (c : A) →
-      Walk linked a rest b → Walk linked b more c → Walk linked a (rest ++ more) c
+  pub walk_append : (a : A) (rest : List A) (b : A) (more : List A) (c : A) → Walk linked a rest b → Walk linked b more c → Walk linked a (rest ++ more) c
   walk_append a [] b more c w v = walk_from b a more c (sym w) v
   walk_append a (d ∷ rest) b more c w v = (w.0, walk_append d rest b more c w.1 v)
 
@@ -126,8 +124,7 @@ module _ {A : Type 0} (linked : A → A → Bool) (simple : Simple linked) where
 
 pub Connected-from_root : {A : Type 0} (IsMember : A → Type 0) (linked : A → A → Bool) → Simple linked → (root : A) →
     ((a : A) → IsMember a → Reaches linked root a) → Connected IsMember linked
-Connected-from_root IsMember linked simple root all a b at_a at_b =
-    Reaches-trans linked a root b (Reaches-sym linked simple root a (all a at_a)) (all b at_b)
+Connected-from_root IsMember linked simple root all a b at_a at_b = Reaches-trans linked a root b (Reaches-sym linked simple root a (all a at_a)) (all b at_b)
 
 pub record PartFrom {A : Type 0} (linked : A → A → Bool) (u b : A) (rest part : List A) : Type 0 where
   pub walk : Walk linked u part b
@@ -137,8 +134,7 @@ pub record PartFrom {A : Type 0} (linked : A → A → Bool) (u b : A) (rest par
   pub shorter : length part ≤ length rest
 
 module _ {A : Type 0} (can : CanTell A) (linked : A → A → Bool) where
-  pub part_from : (u a : A) (rest : List A) (b : A) → Walk linked a rest b → Among u (a ∷ rest) →
-      (part : List A) × PartFrom linked u b rest part
+  pub part_from : (u a : A) (rest : List A) (b : A) → Walk linked a rest b → Among u (a ∷ rest) → (part : List A) × PartFrom linked u b rest part
   part_from u a [] b w h = grind arith
   part_from u a (c ∷ rest) b w h =
       elim (Among-cases can u (c ∷ rest)) [
@@ -193,25 +189,21 @@ module _ {A : Type 0} (linked : A → A → Bool) where
       let (back, v, same) = walk_back linked simple a rest b w in
       (back, v, λ h. avoids (same x h))
 
-  pub Around-keeps : (b : A) (P : A → Type 0) → ((x y : A) → P x → IsTrue (linked x y) → b ≢ x → b ≢ y → P y) →
-      (a c : A) → Around linked b a c → P a → P c
+  pub Around-keeps : (b : A) (P : A → Type 0) → ((x y : A) → P x → IsTrue (linked x y) → b ≢ x → b ≢ y → P y) → (a c : A) → Around linked b a c → P a → P c
   Around-keeps b P next a c around = along a around.0 around.1 around.2
     where
       along : (a : A) (rest : List A) → Walk linked a rest c → ¬ Among b (a ∷ rest) → P a → P c
       along a [] w avoids at_a = subst P w at_a
-      along a (d ∷ rest) w avoids at_a =
-          along d rest w.1 (λ h. avoids (inr h)) (next a d at_a w.0 (λ e. avoids (inl e)) (λ e. avoids (inr (inl e))))
+      along a (d ∷ rest) w avoids at_a = along d rest w.1 (λ h. avoids (inr h)) (next a d at_a w.0 (λ e. avoids (inl e)) (λ e. avoids (inr (inl e))))
 
   pub no_around-from_Beyond : (x f c : A) → Beyond linked x f c → ¬ Around linked x c f
   no_around-from_Beyond x f c beyond around = around.2 (beyond around.0 around.1)
 
 module _ {A : Type 0} (can : CanTell A) (linked : A → A → Bool) where
   pub Beyond-from_no_around : (x f c : A) → ¬ Around linked x c f → Beyond linked x f c
-  Beyond-from_no_around x f c none rest w =
-      elim (Among-cases can x (c ∷ rest)) [ inl h ↦ h | inr avoids ↦ absurd (none (rest, w, avoids)) ]
+  Beyond-from_no_around x f c none rest w = elim (Among-cases can x (c ∷ rest)) [ inl h ↦ h | inr avoids ↦ absurd (none (rest, w, avoids)) ]
 
-  pub Around-without_repeats : (x a b : A) → Around linked x a b →
-      (rest : List A) × Walk linked a rest b × ¬ Among x (a ∷ rest) × Different (a ∷ rest)
+  pub Around-without_repeats : (x a b : A) → Around linked x a b → (rest : List A) × Walk linked a rest b × ¬ Among x (a ∷ rest) × Different (a ∷ rest)
   Around-without_repeats x a b around =
       let (rest, w, avoids) = around in
       let (cut, v, different, within) = walk_without_repeats can linked a rest b w in

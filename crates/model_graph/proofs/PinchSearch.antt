@@ -1,9 +1,8 @@
 -- Pinches found link by link.
 use Rattle.std.proofs.Common.{◌≡◌, ◌≢◌, ◌<◌, ℕ, Bool, IsTrue, Option, None, List, length, get_or, sym, subst, arith, inl, inr, Some, MatchOption, [], ◌∷◌}
 use Rattle.std.proofs.lemmas.{Bool.cases_eq, Bool.cases_lt, Option.MatchOption-at_some, Option.MatchOption-at_none}
-use Rattle.model_graph.specs.Walk.{Simple, Among, Walk, Reaches, Connected}
+use Rattle.model_graph.specs.{Walk.{Simple, Among, Walk, Reaches, Connected}, Reach.FirstUnreached}
 use Rattle.model_graph.specs.{Beyond.Around, Beyond.Parted, Rows.links_at, Rows.linked, Rows.IsGraph, Levels.level_of, Levels.AreLevels, Pinches.IsPinch, Pinches.FirstOther, Pinches.FirstHere}
-use Rattle.model_graph.specs.Reach.{FirstUnreached}
 use Rattle.model_graph.proofs.{Members.ℕ-can_tell, Members.Around-sym, Members.Beyond-from_no_around, Members.Connected-from_root, Rows.holds_at, Rows.place_of, Floods.level_cases}
 
 pub Simple-from_graph : (rows : List (List ℕ)) → IsGraph rows → Simple (linked rows)
@@ -62,16 +61,14 @@ no_pinch_at rows at row is none a c pinch =
     none p.0 c p.1 (subst (λ one. IsPinch (linked rows) at one c) (sym p.2) pinch)
 
 pub Parted-from_no_pinch : (links : ℕ → ℕ → Bool) → Simple links → ((b a c : ℕ) → ¬ IsPinch links b a c) → Parted links
-Parted-from_no_pinch links simple none b a c link_a link_c differ apart =
-    Beyond-from_no_around ℕ-can_tell links b c a (grind (arith, cases_lt, Around-sym))
+Parted-from_no_pinch links simple none b a c link_a link_c differ apart = Beyond-from_no_around ℕ-can_tell links b c a (grind (arith, cases_lt, Around-sym))
 
 -- The levels from member 0 decide which walks the whole graph has.
 
 pub not_past_members : (rows : List (List ℕ)) → IsGraph rows → (rest : List ℕ) (a b : ℕ) → a < length rows → Walk (linked rows) a rest b → ¬ Among (length rows) (a ∷ rest)
 not_past_members rows graph rest a b lt walk (inl is) = absurd (omega arith)
 not_past_members rows graph [] a b lt walk (inr later) = absurd later
-not_past_members rows graph (c ∷ rest) a b lt walk (inr later) =
-    not_past_members rows graph rest c b (graph.within a c walk.0) walk.1 later
+not_past_members rows graph (c ∷ rest) a b lt walk (inr later) = not_past_members rows graph rest c b (graph.within a c walk.0) walk.1 later
 
 pub around_none : (rows : List (List ℕ)) → IsGraph rows → (a b : ℕ) → a < length rows → Reaches (linked rows) a b → Around (linked rows) (length rows) a b
 around_none rows graph a b lt walk = (walk.0, walk.1, not_past_members rows graph walk.0 a b lt walk.1)

@@ -40,8 +40,7 @@ module _ {A B : Type 0} (linked : A → A → Bool) (joined : B → B → Bool) 
   pub Reaches-renamed : (a b : A) → Reaches linked a b → Reaches joined (name a) (name b)
   Reaches-renamed a b reaches = (map name reaches.0, Walk-renamed a reaches.0 b reaches.1)
 
-  pub cycle_owns : Simple linked → (first : A) (rest : List A) → Cycle linked first rest → (x : A) → Among x (first ∷ rest) →
-      back (name x) ≡ x
+  pub cycle_owns : Simple linked → (first : A) (rest : List A) → Cycle linked first rest → (x : A) → Among x (first ∷ rest) → back (name x) ≡ x
   cycle_owns simple first rest cycle x h = grind (arith, link_from, walk_links)
 
   pub Cycle-renamed : Simple linked → (first : A) (rest : List A) → Cycle linked first rest → Cycle joined (name first) (map name rest)

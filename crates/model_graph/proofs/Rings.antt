@@ -18,8 +18,7 @@ turned_past : (ring : List ℕ) (k : ℕ) → length ring ≤ k → turned k rin
 turned_past ring k past = ap (λ (xs : List ℕ). xs ++ take k ring) (drop_all k ring past) ∙ take_all k ring past
 
 pub IsCycle-begun_at : (links : ℕ → ℕ → Bool) (ring : List ℕ) → IsCycle links ring → (k : ℕ) → IsCycle links (turned k ring)
-IsCycle-begun_at links ring cycle k =
-    IsCycle-rotated links (take k ring) (drop k ring) (subst (IsCycle links) (sym (take-append-drop k ring)) cycle)
+IsCycle-begun_at links ring cycle k = IsCycle-rotated links (take k ring) (drop k ring) (subst (IsCycle links) (sym (take-append-drop k ring)) cycle)
 
 pub Among-reverse : (x : ℕ) (xs : List ℕ) → Among x xs → Among x (reverse xs)
 Among-reverse x [] among = absurd among

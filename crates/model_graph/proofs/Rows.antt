@@ -1,10 +1,8 @@
 -- Links as rows, and links as items of a row.
 use Rattle.std.proofs.Common.{◌≡◌, ◌==◌, ◌<◌, ◌≤◌, ℕ, zero, suc, IsTrue, List, [], ◌∷◌, length, get_or, arith, inl, inr, sym, ◌≢◌, ◌+◌, ◌++◌, Bool, false, Option, Some, None, set, ◌∙◌}
-use Rattle.std.proofs.lemmas.Bool.{eq-eqb, eqb-true, or_cases, or_left, or_right, false≢true, cases_eq, cases_lt}
+use Rattle.std.{proofs.lemmas.Bool.{eq-eqb, eqb-true, or_cases, or_left, or_right, false≢true, cases_eq, cases_lt}, specs.List.list_any}
 use Rattle.std.proofs.lemmas.List.{get_or_past, length_push, length-set, get_or_push, get_or_append_left, get_or-set_same, get_or-set_other}
-use Rattle.std.specs.List.{list_any}
-use Rattle.model_graph.specs.Rows.{linked, IsAscending, links_at, IsGraph, EachAnswered}
-use Rattle.model_graph.specs.Blocks.{IsInBlock, AreBlocks, IsLastBefore, LastMembers}
+use Rattle.model_graph.specs.{Rows.{linked, IsAscending, links_at, IsGraph, EachAnswered}, Blocks.{IsInBlock, AreBlocks, IsLastBefore, LastMembers}}
 
 pub holds_at : (row : List ℕ) (x k : ℕ) → k < length row → get_or row k 0 ≡ x → IsTrue (list_any (λ link. link == x) row)
 holds_at [] x k lt e = absurd (omega arith)

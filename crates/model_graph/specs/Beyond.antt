@@ -12,8 +12,7 @@ Around {A} linked x a b = (rest : List A) × Walk linked a rest b × ¬ Among x 
 
 -- Any two links of b that are not linked are parted by b: every walk from one to the other passes b.
 abbrev pub Parted : {A : Type 0} → (A → A → Bool) → Type 0
-Parted {A} linked =
-    (b a c : A) → IsTrue (linked b a) → IsTrue (linked b c) → a ≢ c → ¬ IsTrue (linked a c) → Beyond linked b c a
+Parted {A} linked = (b a c : A) → IsTrue (linked b a) → IsTrue (linked b c) → a ≢ c → ¬ IsTrue (linked a c) → Beyond linked b c a
 
 -- Any two links of b are parted by b.
 abbrev pub AllParted : {A : Type 0} → (A → A → Bool) → Type 0

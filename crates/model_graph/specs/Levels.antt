@@ -12,5 +12,4 @@ pub record Distance {A : Type 0} (linked : A → A → Bool) (x a b : A) (links 
 
 -- The level of each member is its distance from the root; a member that no walk reaches has none.
 abbrev pub AreLevels : (ℕ → ℕ → Bool) → ℕ → ℕ → List (Option ℕ) → Type 0
-AreLevels linked x root levels =
-    (b : ℕ) → MatchOption (level_of levels b) (¬ Around linked x root b) (Distance linked x root b)
+AreLevels linked x root levels = (b : ℕ) → MatchOption (level_of levels b) (¬ Around linked x root b) (Distance linked x root b)

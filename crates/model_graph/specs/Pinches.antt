@@ -17,8 +17,7 @@ pub record IsPinchBy {A : Type 0} (Before : A → A → Type 0) (linked : A → 
 -- No pinch comes before b, a, c: none with an earlier b, nor with this b and an earlier a, and so on.
 pub record FirstPinchBy {A : Type 0} (Before : A → A → Type 0) (linked : A → A → Bool) (b a c : A) : Type 0 where
   pub pinch : IsPinchBy Before linked b a c
-  pub first : (e d f : A) → IsPinchBy Before linked e d f →
-      Before b e ⊎ ((b ≡ e) × (Before a d ⊎ ((a ≡ d) × NotAfter Before c f)))
+  pub first : (e d f : A) → IsPinchBy Before linked e d f → Before b e ⊎ ((b ≡ e) × (Before a d ⊎ ((a ≡ d) × NotAfter Before c f)))
 
 abbrev pub IsPinch : (ℕ → ℕ → Bool) → ℕ → ℕ → ℕ → Type 0
 IsPinch linked b a c = IsPinchBy (λ x y. x < y) linked b a c

@@ -10,5 +10,4 @@ pub record IsRenaming {A B : Type 0} (linked : A → A → Bool) (joined : B →
 
 -- `name` keeps the order of members that have links.
 abbrev pub KeepsOrder : {A B : Type 0} → (A → A → Bool) → (A → A → Type 0) → (B → B → Type 0) → (A → B) → Type 0
-KeepsOrder {A} linked Before Earlier name =
-    (x y u v : A) → IsTrue (linked x u) → IsTrue (linked y v) → Before x y → Earlier (name x) (name y)
+KeepsOrder {A} linked Before Earlier name = (x y u v : A) → IsTrue (linked x u) → IsTrue (linked y v) → Before x y → Earlier (name x) (name y)

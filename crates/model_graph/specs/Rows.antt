@@ -1,6 +1,5 @@
 -- A graph of members 0, 1, 2 and so on, as a row of links for each.
-use Rattle.std.specs.Prelude.{◌≢◌, ◌==◌, ◌<◌, ℕ, Bool, IsTrue, List, [], length, slice_index, slice_index_or}
-use Rattle.std.specs.List.{list_any}
+use Rattle.std.specs.{Prelude.{◌≢◌, ◌==◌, ◌<◌, ℕ, Bool, IsTrue, List, [], length, slice_index, slice_index_or}, List.list_any}
 
 -- The links of a member; past the last member there are none.
 abbrev pub links_at : List (List ℕ) → ℕ → List ℕ

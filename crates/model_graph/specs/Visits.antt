@@ -1,6 +1,5 @@
 -- One member's links get a level, if they have none yet, and join the end of the queue.
-use Rattle.std.specs.Prelude.{◌≡◌, ◌≢◌, ◌==◌, ◌+◌, ◌<◌, ◌≤◌, ◌⊎◌, ℕ, IsTrue, Option, Some, None, List, [], ◌∷◌, length, slice_index}
-use Rattle.std.specs.List.{list_any}
+use Rattle.std.specs.{Prelude.{◌≡◌, ◌≢◌, ◌==◌, ◌+◌, ◌<◌, ◌≤◌, ◌⊎◌, ℕ, IsTrue, Option, Some, None, List, [], ◌∷◌, length, slice_index}, List.list_any}
 use Rattle.model_graph.specs.Levels.{level_of}
 
 -- The number of members without a level.

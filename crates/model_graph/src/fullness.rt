@@ -1,8 +1,7 @@
 //! The full blocks of a graph: all members are linked with each other and with the top.
 
 ghost use Rattle.std.specs.Prelude.{◌≡◌, ◌<◌, ℕ, false, IfOk, IsTrue, None, length, slice_index_or};
-ghost use Rattle.model_graph.specs.Blocks.{block_of, top_of, AreFull, IsLastBefore, IsFullyLinked};
-ghost use Rattle.model_graph.specs.Rows.{linked};
+ghost use Rattle.model_graph.specs.{Blocks.{block_of, top_of, AreFull, IsLastBefore, IsFullyLinked}, Rows.linked};
 
 use crate::blocks::{Blocks, block_lists};
 use crate::graph::Graph;

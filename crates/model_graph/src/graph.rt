@@ -1,5 +1,4 @@
-ghost use Rattle.std.specs.Prelude.{◌≡◌, ◌<◌, ℕ, List, ◌==◌, length};
-ghost use Rattle.std.specs.List.{list_any};
+ghost use Rattle.std.specs.{Prelude.{◌≡◌, ◌<◌, ℕ, List, ◌==◌, length}, List.list_any};
 ghost use Rattle.model_graph.specs.Rows.{links_at, linked, IsGraph, IsAscending};
 
 use std::marker::Model;

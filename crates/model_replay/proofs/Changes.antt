@@ -1,7 +1,6 @@
 -- An item of a list is changed.
 use Rattle.std.proofs.Common.{◌≡◌, ◌≢◌, ℕ, zero, suc, ◌<◌, ◌≤◌, List, [], ◌∷◌, ◌++◌, length, get_or, set, map, cond, refl, sym, ap, ◌∙◌, Option, Some, None, arith}
-use Rattle.std.proofs.{lemmas.List.append-nil, lemmas.Option.get_or_from_slice_get, lemmas.Option.slice_get_read, Math.Seq.map-set_same}
-use Rattle.std.specs.{Prelude.is_none, List.All}
+use Rattle.std.{proofs.{lemmas.{List.append-nil, Option.{get_or_from_slice_get, slice_get_read}}, Math.Seq.map-set_same}, specs.{Prelude.is_none, List.All}}
 use Rattle.echo_links.specs.Links.{LinkFile}
 use Rattle.model_steps.specs.{declared.draft.Draft.Draft, declared.stamp.Stamp.Stamp, declared.fault.PostFault.PostFault, declared.packet.Packet.Packet, Posting.IsPostFault, Posting.post_refusal, Posting.posted, Posting.posting, SystemState.SystemState, SystemState.state_with}
 use Rattle.model_steps.specs.declared.fault.PostFault.TheVariants as fault
@@ -34,8 +33,7 @@ posting-none o tag draft serial stamp f e = ap (λ (r : Option PostFault). cond 
 
 after_refusal : (o : SystemState) (tag : List ℕ) (draft : Draft) (serial : ℕ) (stamp : Stamp) (f : PostFault) (n : SystemState) → post_refusal o.file o.base tag draft serial stamp ≡ Some f
     → n ≡ o → n ≡ after_posting tag draft serial stamp o
-after_refusal o tag draft serial stamp f n e same =
-    same ∙ sym (state_with-none o) ∙ ap (state_with o) (sym (posting-none o tag draft serial stamp f e))
+after_refusal o tag draft serial stamp f n e same = same ∙ sym (state_with-none o) ∙ ap (state_with o) (sym (posting-none o tag draft serial stamp f e))
 
 pub posted-after : (o : SystemState) (tag : List ℕ) (draft : Draft) (serial : ℕ) (stamp : Stamp) (n : SystemState) → post_refusal o.file o.base tag draft serial stamp ≡ None
     → n ≡ state_with o (Some (posted o.file tag draft serial stamp)) → n ≡ after_posting tag draft serial stamp o

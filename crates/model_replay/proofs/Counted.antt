@@ -1,5 +1,4 @@
-use Rattle.std.proofs.Common.{◌≡◌, ◌∙◌, sym, ap, refl, ℕ, ◌+◌, ◌<◌, List, [], ◌∷◌, ◌++◌, length, get_or, map, take}
-use Rattle.std.proofs.lemmas.List.{map-append, take_more}
+use Rattle.std.proofs.{Common.{◌≡◌, ◌∙◌, sym, ap, refl, ℕ, ◌+◌, ◌<◌, List, [], ◌∷◌, ◌++◌, length, get_or, map, take}, lemmas.List.{map-append, take_more}}
 use Rattle.echo_links.specs.Links.{LinkFile}
 use Rattle.model_run.specs.{Run.Run, Run.after_event, Run.after_events, Run.run_of, Run.start, Event.RunEvent, Event.run_event, declared.event.Event.Event}
 use Rattle.model_replay.specs.Counts.{packet_counts}

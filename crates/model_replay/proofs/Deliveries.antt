@@ -1,11 +1,9 @@
 -- A packet comes, for the first time or again.
 use Rattle.std.proofs.Common.{◌≡◌, ℕ, zero, suc, ◌+◌, ◌==◌, Bool, true, false, List, [], ◌∷◌, length, map, refl, sym, ap, subst, ◌∙◌, Option, Some, None, arith}
-use Rattle.std.proofs.lemmas.Bool.{cond-true, eqb-true}
-use Rattle.std.specs.{Prelude.option_map, List.list_any}
+use Rattle.std.{proofs.lemmas.Bool.{cond-true, eqb-true}, specs.{Prelude.option_map, List.list_any}}
 use Rattle.model_graph.specs.Walk.{Among}
 use Rattle.model_steps.specs.{declared.packet.Packet.Packet, SystemState.SystemState}
-use Rattle.model_run.specs.Run.{Run, System, change, coming, delivery, destination, nth, receiver, taking, with_index}
-use Rattle.model_run.proofs.Lists.{any-from}
+use Rattle.model_run.{specs.Run.{Run, System, change, coming, delivery, destination, nth, receiver, taking, with_index}, proofs.Lists.any-from}
 use Rattle.model_replay.specs.{Worlds.Exported, Worlds.Fits, Worlds.IsWorldOf, Worlds.WorldState, Worlds.encoded, Worlds.exported_packet, Worlds.state_of, Worlds.world_after, Taken.AreTaken}
 use Rattle.model_replay.proofs.{Changes.read-nth, Exports.exported-nth, Exports.within-nth, Runs.delivered-run, Taken.state_stays}
 

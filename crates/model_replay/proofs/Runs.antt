@@ -2,9 +2,8 @@
 use Rattle.std.proofs.Common.{◌≡◌, ℕ, zero, suc, ◌+◌, ◌<◌, ◌≤◌, nat_lt, not, Bool, true, false, cond, List, [], ◌∷◌, ◌++◌, length, get_or, take, map, refl, sym, ap, subst, ◌∙◌, Option, Some, None, arith, inl, inr}
 use Rattle.std.proofs.lemmas.{List.append-nil, List.length-append, List.length-map, List.map-append, List.take_all, List.take_more, List.Elements.All-append, List.Recursion.is_position_or_len, List.Sums.passes_at_first, Bool.cases_Bool, Bool.cond-false, Bool.cond-true, Bool.le-ltb, Bool.lt-ltb, Bool.ltb-false, Bool.ltb-true}
 use Rattle.std.specs.{Prelude.option_map, List.All, List.position_or_len}
-use Rattle.echo_links.proofs.Addresses.{same_address_decides}
+use Rattle.echo_links.{proofs.Addresses.same_address_decides, specs.Links.{LinkFile, same_address}}
 use Rattle.echo_addr.specs.declared.address.Address.{Address}
-use Rattle.echo_links.specs.Links.{LinkFile, same_address}
 use Rattle.echo_filed.specs.Filed.{Filed}
 use Rattle.model_steps.specs.{declared.draft.Draft.Draft, declared.packet.Packet.Packet, declared.stamp.Stamp.Stamp, SystemState.SystemState, SystemState.state_at_first, SystemState.state_with, Posting.posting, Scanning.scanned, Stamps.is_stamp}
 use Rattle.model_run.specs.Run.{Run, System, after_event, change, changing, coming, delivery, destination, filing, fresh, nth, posting_at, purging_at, receiver, run_of, scanning, scanning_at, start, taking}

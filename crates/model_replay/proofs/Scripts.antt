@@ -2,8 +2,7 @@
 use Rattle.std.proofs.Common.{◌≡◌, ◌⊎◌, ℕ, ◌+◌, not, true, false, cond, List, [], ◌∷◌, ◌++◌, ap, ◌∙◌, Option, Some, None, Result, Ok, Err, arith}
 use Rattle.std.proofs.lemmas.List.{append_assoc, append-nil, Elements.filter-append, Elements.filter_map-append}
 use Rattle.std.specs.{Prelude.MatchResult, Prelude.is_some, List.cons_option, List.filter_map}
-use Rattle.echo_links.specs.LinkLines.{file_lines, is_skipped}
-use Rattle.echo_links.proofs.LinkBytes.{no_lines_left}
+use Rattle.echo_links.{specs.LinkLines.{file_lines, is_skipped}, proofs.LinkBytes.no_lines_left}
 use Rattle.model_run.specs.declared.event.Event.{Event}
 use Rattle.model_replay.specs.{Script.ScriptOf, Script.event_in, Script.events_in, Script.events_of, Script.first_script_fault, Script.script_line_fault, Script.script_fault, declared.script.ScriptFault.ScriptFault}
 use Rattle.model_replay.specs.declared.script.ScriptFault.TheVariants as fault

@@ -1,6 +1,5 @@
 -- Few messages keep within a great limit.
-use Rattle.std.proofs.Common.{◌≡◌, ℕ, ◌+◌, ◌<◌, ◌≤◌, List, [], ◌∷◌, length, take, get_or, sym, subst}
-use Rattle.std.specs.List.{AllByRecursion}
+use Rattle.std.{proofs.Common.{◌≡◌, ℕ, ◌+◌, ◌<◌, ◌≤◌, List, [], ◌∷◌, length, take, get_or, sym, subst}, specs.List.AllByRecursion}
 use Rattle.echo_packet.specs.Message.{IsMessage, Message}
 use Rattle.echo_filed.proofs.Plain.{all_append}
 use Rattle.model_steps.proofs.Encoding.{IsWhole, one_more_message, longer}

@@ -1,15 +1,12 @@
 -- A packet that was delivered brings nothing new: each of its messages is refused or known, and stays so.
 use Rattle.std.proofs.Common.{◌≡◌, ℕ, ◌||◌, Bool, true, false, not, List, [], ◌∷◌, ◌++◌, length, map, take, refl, sym, ap, subst, ◌∙◌, Option, Some, None, inl, inr, arith}
-use Rattle.std.proofs.lemmas.List.{append-nil, length-append}
-use Rattle.std.specs.{Prelude.if◌then◌else◌, Prelude.option_to_list, List.list_any, List.position_or_len}
+use Rattle.std.{proofs.lemmas.List.{append-nil, length-append}, specs.{Prelude.{if◌then◌else◌, option_to_list}, List.{list_any, position_or_len}}}
 use Rattle.echo_addr.specs.declared.address.Address.{Address}
 use Rattle.model_graph.proofs.Members.{Among-append_left, Among-append_right}
 use Rattle.echo_packet.specs.Message.{Message}
 use Rattle.echo_links.specs.Links.{LinkFile, same_address}
-use Rattle.echo_filed.specs.{declared.key.Key.Key, Filed.Filed, Filed.key_of, Filed.same_key}
-use Rattle.echo_filed.proofs.Keys.{same_key_decides}
-use Rattle.base_file.specs.Base.{is_known}
-use Rattle.base_file.proofs.StubBases.{purged_keys}
+use Rattle.echo_filed.{specs.{declared.key.Key.Key, Filed.{Filed, key_of, same_key}}, proofs.Keys.same_key_decides}
+use Rattle.base_file.{specs.Base.is_known, proofs.StubBases.purged_keys}
 use Rattle.model_steps.specs.{Tossing.received, Tossing.sender_of, Tossing.toss_outcome, Tossing.tossed, Tossing.tossing, Tossing.where_filed, declared.outcome.Outcome.Outcome, declared.packet.Packet.Packet, Posting.posting, Purging.purged, Scanning.scanned, Stamps.is_stamp}
 use Rattle.model_steps.specs.declared.outcome.Outcome.TheVariants as outcome
 use Rattle.model_run.specs.Event.{RunEvent, Posting, Scanning, Delivery, PartDelivery, Purging}
@@ -40,8 +37,7 @@ known-last base m =
     ((same_key_decides (key_of m) (key_of m)).1 refl)
 
 abbrev outcome_by : Bool → Bool → Bool → Outcome
-outcome_by area link known =
-    if not area then outcome.NoArea else if not link then outcome.NotLinked else if known then outcome.Known else outcome.Filed
+outcome_by area link known = if not area then outcome.NoArea else if not link then outcome.NotLinked else if known then outcome.Known else outcome.Filed
 
 unfiled-more : (area link known more : Bool) (m : Filed) → (known ≡ true → more ≡ true) → where_filed (outcome_by area link known) m ≡ None
     → where_filed (outcome_by area link more) m ≡ None
@@ -74,8 +70,7 @@ unfiled_after file base sender packed = grind (arith, append-nil, known_unfiled,
 still_none : (file : LinkFile) (base more : List Filed) (sender : Address) → Knows base more → (ms : List Message) → NoneIsFiled file base sender ms
     → NoneIsFiled file more sender ms
 still_none file base more sender knows [] h = tt
-still_none file base more sender knows (packed ∷ ms) h =
-    (still_unfiled file base more sender packed knows h.0, still_none file base more sender knows ms h.1)
+still_none file base more sender knows (packed ∷ ms) h = (still_unfiled file base more sender packed knows h.0, still_none file base more sender knows ms h.1)
 
 knows-tossed : (file : LinkFile) (base : List Filed) (sender : Address) (ms : List Message) → Knows base (tossed file base sender ms)
 knows-tossed file base sender [] key h = h
@@ -202,18 +197,15 @@ event-taken run (PartDelivery k messages) are = by (nth k run.packets)
   where
     by : (found : Option Packet) → AreTaken (part_delivery run messages found)
     by None = are
-    by (Some p) =
-        changing-taken run (receiver run p) (taking p messages) (λ s. tossing-grows (sender_of s.file p.header) (take messages p.messages) s) are
-event-taken run (Purging i) are =
-    changing-taken run i purging_at (λ s. record { file = refl; knows = knows-purged s.base s.cursor }) are
+    by (Some p) = changing-taken run (receiver run p) (taking p messages) (λ s. tossing-grows (sender_of s.file p.header) (take messages p.messages) s) are
+event-taken run (Purging i) are = changing-taken run i purging_at (λ s. record { file = refl; knows = knows-purged s.base s.cursor }) are
 
 events-taken : (events : List RunEvent) (run : Run) → AreTaken run → AreTaken (after_events run events)
 events-taken [] run are = are
 events-taken (event ∷ events) run are = events-taken events (after_event run event) (event-taken run event are)
 
 pub run-taken : (files : List LinkFile) (events : List RunEvent) → AreTaken (run_of files events)
-run-taken files events =
-    events-taken events (start files) (record { there = λ k among. absurd among; taken = λ k p s among at here. absurd among })
+run-taken files events = events-taken events (start files) (record { there = λ k among. absurd among; taken = λ k p s among at here. absurd among })
 
 pub state_stays : (s : System) (p : Packet) → HasTaken s p → state_of (taking p (length p.messages) s) ≡ state_of s
 state_stays s p taken = grind (arith, none_tossed, state-taking)

@@ -43,8 +43,7 @@ pub record Cut (bytes word rest : List ℕ) : Type 0 where
 
 pub rest_is : (bytes word rest : List ℕ) → Cut bytes word rest → after_first_word bytes ≡ rest
 unfolding after_first_word
-rest_is bytes word rest cut =
-    ap (λ ws. drop (length (first_of ws)) (drop (position_or_len (λ b. not (is_blank b)) bytes) bytes)) cut.words_are ∙ sym cut.after
+rest_is bytes word rest cut = ap (λ ws. drop (length (first_of ws)) (drop (position_or_len (λ b. not (is_blank b)) bytes) bytes)) cut.words_are ∙ sym cut.after
 
 pub no_words : (rest : List ℕ) → tokens rest ≡ [] → posting_in rest ≡ None
 unfolding posting_in

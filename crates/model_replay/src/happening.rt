@@ -1,5 +1,4 @@
-ghost use Rattle.std.specs.Prelude.{◌≡◌, ◌≢◌, ◌++◌, ◌∷◌, [], ◌<◌, length, map, Bool, true, false, None, Some, IfOk, OnOk};
-ghost use Rattle.std.specs.List.{All};
+ghost use Rattle.std.specs.{Prelude.{◌≡◌, ◌≢◌, ◌++◌, ◌∷◌, [], ◌<◌, length, map, Bool, true, false, None, Some, IfOk, OnOk}, List.All};
 ghost use Rattle.model_steps.specs.declared.fault.PostFault.TheVariants as post_fault;
 ghost use Rattle.model_run.specs.{Run.Run, Run.after_event, Run.change, Run.destination, Run.nth, Event.run_event};
 ghost use Rattle.model_steps.specs.{declared.packet.Packet.Packet, SystemState.SystemState};

@@ -163,8 +163,7 @@ pub run-append : (file : LinkFile) (earlier later : List LoneEvent) → lone_run
 run-append file earlier later = events-append earlier later (lone_at_first file)
 
 pub run-lasts : (file : LinkFile) (earlier later : List LoneEvent) → Lasts (lone_run file earlier) (lone_run file (earlier ++ later))
-run-lasts file earlier later =
-    rw (← (run-append file earlier later)) at (events-last later (lone_run file earlier) (run-left file earlier))
+run-lasts file earlier later = rw (← (run-append file earlier later)) at (events-last later (lone_run file earlier) (run-left file earlier))
 
 pub run-file : (file : LinkFile) (events : List LoneEvent) → (lone_run file events).system.file ≡ file
 run-file file events = (events-last events (lone_at_first file) (first-left file)).system.file

@@ -232,8 +232,7 @@ module _ (files : List LinkFile) (known : LawsOfRuns files) (tag : List ℕ) (on
       }
 
       sent-there : sent_count x (key_of p) (sent_by sent.export.system (exports files events)) ≡ 1
-      sent-there =
-          rw original-key at (known.sent events sent.export.system maker sent.at original sent.scanned x copy.target)
+      sent-there = rw original-key at (known.sent events sent.export.system maker sent.at original sent.scanned x copy.target)
 
     held-or_came : (x : Address) (m : Filed) (a : Holds x m) → ((a.index ≡ i) × (x ≡ f) × (m ≡ p)) ⊎ Sent x m
     held-or_came x m a =

@@ -85,12 +85,10 @@ received-key a b q = key-same a b q (msgid_of (echo_of q.text).kept)
 
 module _ (files : List LinkFile) (known : LawsOfRuns files) where
   pub file-there : (events : List RunEvent) (s : System) → Among s (run_of files events).systems → Among s.file files
-  file-there events s h =
-      rw (run-files files events) at (Among-map_to (λ (z : System). z.file) s (run_of files events).systems h)
+  file-there events s h = rw (run-files files events) at (Among-map_to (λ (z : System). z.file) s (run_of files events).systems h)
 
   pub system-there : (events : List RunEvent) (file : LinkFile) → Among file files → (s : System) × Among s (run_of files events).systems × (file ≡ s.file)
-  system-there events file h =
-      Among-map_from (λ (z : System). z.file) file (run_of files events).systems (rw (← (run-files files events)) at h)
+  system-there events file h = Among-map_from (λ (z : System). z.file) file (run_of files events).systems (rw (← (run-files files events)) at h)
 
   pub copy-there : (events : List RunEvent) (p : Packet) → Among p (run_of files events).packets → (q : Message) → Among q p.messages →
       Among (received (origin p) q) (copies p)

@@ -1,7 +1,6 @@
 -- The bytes of a packet, message by message.
 use Rattle.std.proofs.Common.{◌≡◌, ℕ, zero, suc, ◌+◌, ◌<◌, ◌≤◌, List, [], ◌∷◌, ◌++◌, length, take, get_or, sym, ap, subst, ◌∙◌, arith, append_assoc, length-append}
-use Rattle.std.proofs.lemmas.List.{take_more}
-use Rattle.std.specs.List.{AllByRecursion}
+use Rattle.std.{proofs.lemmas.List.take_more, specs.List.AllByRecursion}
 use Rattle.echo_packet.specs.{Message.IsMessage, Message.Message, Message.Text, Message.before, Message.message_bytes, Message.messages_bytes, Message.numbers, Message.zero_ended, declared.header.Header.Header, Header.IsHeader, Header.header_bytes, Header.word, Packet.PacketOf, Packet.packet_bytes}
 use Rattle.echo_packet.proofs.{MessageByMessage.messages_bytes-push, Outcome.length-messages as counted}
 use Rattle.echo_filed.proofs.Plain.{all_append}

@@ -1,21 +1,17 @@
 -- The text_refusal of a posting, and the outcome of a toss, are the first that apply.
-use Rattle.std.proofs.Common.{◌≡◌, ℕ, ◌==◌, ◌||◌, ◌↔◌, Bool, true, false, cond, not, List, length, Option, Some, None, arith}
-use Rattle.std.specs.List.{list_any}
+use Rattle.std.{proofs.Common.{◌≡◌, ℕ, ◌==◌, ◌||◌, ◌↔◌, Bool, true, false, cond, not, List, length, Option, Some, None, arith}, specs.List.list_any}
 use Rattle.echo_addr.specs.declared.address.Address.{Address}
 use Rattle.echo_packet.specs.Message.{Message}
-use Rattle.echo_text.specs.Lines.{area_tag, first_line, is_area, is_tag, lines}
-use Rattle.echo_text.specs.{declared.fault.TextFault.TextFault, Refusal.text_refusal, Ids.id_of}
+use Rattle.echo_text.specs.{Lines.{area_tag, first_line, is_area, is_tag, lines}, declared.fault.TextFault.TextFault, Refusal.text_refusal, Ids.id_of}
 use Rattle.echo_text.specs.declared.fault.TextFault.TheVariants as text
-use Rattle.model_steps.specs.Posting.{IsAllowed, IsFirstRefusal, has_id, holds_zero, is_too_long, post_refusal}
+use Rattle.model_steps.{specs.Posting.{IsAllowed, IsFirstRefusal, has_id, holds_zero, is_too_long, post_refusal}, proofs.Posted.allowed}
 use Rattle.model_steps.specs.{declared.draft.Draft.Draft, declared.stamp.Stamp.Stamp, declared.fault.PostFault.PostFault, declared.outcome.Outcome.Outcome, ReplyIds.is_reply_id, Stamps.is_stamp}
 use Rattle.model_steps.specs.Tossing.{IsOutcome, outcome_after, received, toss_outcome}
 use Rattle.model_steps.specs.declared.fault.PostFault.TheVariants as fault
 use Rattle.model_steps.specs.declared.outcome.Outcome.TheVariants as outcome
 use Rattle.echo_links.specs.Links.{LinkFile, has_area, is_link, upper}
-use Rattle.echo_filed.specs.{Written.echo_of, Filed.Filed, Filed.key_of}
+use Rattle.echo_filed.{specs.{Written.echo_of, Filed.{Filed, key_of}}, proofs.Choices.same_some}
 use Rattle.base_file.specs.Base.{is_known}
-use Rattle.echo_filed.proofs.Choices.{same_some}
-use Rattle.model_steps.proofs.Posted.{allowed}
 
 abbrev chain : Bool → Bool → Bool → Bool → Bool → Bool → Option PostFault
 chain area zero long moment reply known =
@@ -30,8 +26,7 @@ First area zero long moment reply known fault.ByteZero = (area ≡ true) × (zer
 First area zero long moment reply known fault.FieldTooLong = (area ≡ true) × (zero ≡ false) × (long ≡ true)
 First area zero long moment reply known fault.BadStamp = (area ≡ true) × (zero ≡ false) × (long ≡ false) × (moment ≡ false)
 First area zero long moment reply known fault.BadReply = (area ≡ true) × (zero ≡ false) × (long ≡ false) × (moment ≡ true) × (reply ≡ false)
-First area zero long moment reply known fault.KnownSerial =
-    (area ≡ true) × (zero ≡ false) × (long ≡ false) × (moment ≡ true) × (reply ≡ true) × (known ≡ true)
+First area zero long moment reply known fault.KnownSerial = (area ≡ true) × (zero ≡ false) × (long ≡ false) × (moment ≡ true) × (reply ≡ true) × (known ≡ true)
 First area zero long moment reply known fault.Memory = ⊥
 
 chain_first : (area zero long moment reply known : Bool) (f : PostFault) → chain area zero long moment reply known ≡ Some f → First area zero long moment reply known f

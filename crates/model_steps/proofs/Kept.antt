@@ -1,18 +1,14 @@
 -- A filed message keeps the rules of each base.
-use Rattle.std.proofs.Common.{◌≡◌, ℕ, ◌-◌, ◌≤◌, nat_lt, true, false, List, [], ◌∷◌, ◌++◌, length, codes, sym, subst, Some, None, arith}
+use Rattle.std.{proofs.Common.{◌≡◌, ℕ, ◌-◌, ◌≤◌, nat_lt, true, false, List, [], ◌∷◌, ◌++◌, length, codes, sym, subst, Some, None, arith}, specs.List.list_any}
 use Rattle.std.proofs.lemmas.{Bool.ltb-false, Bool.or_parts, List.length-append, List.length-drop, List.length-take}
-use Rattle.std.specs.List.{list_any}
 use Rattle.echo_addr.specs.declared.address.Address.{Address}
 use Rattle.echo_packet.specs.Message.{IsMessage, Message, max_name, max_subject}
-use Rattle.echo_text.specs.{Ids.is_zero, Refusal.text_refusal}
+use Rattle.echo_text.{specs.{Ids.is_zero, Refusal.text_refusal}, proofs.Reread.read_is_echo}
 use Rattle.model_steps.specs.{declared.draft.Draft.Draft, declared.stamp.Stamp.Stamp, Stamps.date_of, Stamps.is_stamp, Stamps.month_name, Stamps.two_digits, Posting.IsAllowed, Posting.posted, Posting.posting, Tossing.received, Tossing.tossing}
 use Rattle.echo_links.specs.Links.{IsFile, LinkFile}
-use Rattle.echo_filed.specs.{Filed.Filed, Filed.HasSmallSender, Filed.IsFiled, Filed.key_of, Written.echo_of}
-use Rattle.base_file.specs.Base.{IsBase, is_known}
-use Rattle.echo_text.proofs.Reread.{read_is_echo}
+use Rattle.echo_filed.{specs.{Filed.{Filed, HasSmallSender, IsFiled, key_of}, Written.echo_of}, proofs.{Texts.says_read, Plain.some_bytes}}
+use Rattle.base_file.{specs.Base.{IsBase, is_known}, proofs.Entries.{none_known, one_more}}
 use Rattle.model_steps.proofs.{Received.tossing_received, Posted.posted_id, Posted.posted_is_echo, Posted.posting_posted, Dates.month_within as month_right}
-use Rattle.echo_filed.proofs.{Texts.says_read, Plain.some_bytes}
-use Rattle.base_file.proofs.Entries.{none_known, one_more}
 
 month_long : (month : ℕ) → 1 ≤ month → month ≤ 12 → length (month_name month) ≡ 3
 month_long month low high = grind (arith, length-take, length-drop)

@@ -8,8 +8,7 @@ use Rattle.echo_text.specs.Ids.{hex_digit, id_of, serial_text}
 use Rattle.echo_filed.proofs.{Trims.joined_trim, Keys.IsIdText, Plain.IsLineByte, Plain.Plain, Plain.all_append, Plain.plain_address}
 
 hex_digit_high : (n : ℕ) → n < 16 → 48 ≤ hex_digit n
-hex_digit_high n small =
-    leb-true 48 (hex_digit n) (AllPass-from_list_all (λ b. nat_le 48 b) (codes "0123456789abcdef") refl n 0 small)
+hex_digit_high n small = leb-true 48 (hex_digit n) (AllPass-from_list_all (λ b. nat_le 48 b) (codes "0123456789abcdef") refl n 0 small)
 
 no_blank : (b : ℕ) → 48 ≤ b → is_blank b ≡ false
 no_blank b high = grind (arith, or_from, ne_eqb)

@@ -2,15 +2,13 @@ use Rattle.std.proofs.Common.{◌≡◌, ℕ, ◌==◌, ◌||◌, Bool, true, fa
 use Rattle.std.proofs.lemmas.{Bool.and_left, Bool.and_parts, Bool.and_right, Bool.cases_Bool, Bool.cond-false, Bool.cond-true, Bool.not-false, Bool.or_parts, List.Elements.All-from_recursion, List.Elements.recursion_from_All}
 use Rattle.std.specs.{Prelude.bytes_eq, Prelude.find, Prelude.is_some, List.AllByRecursion, List.AllPass, List.list_all, List.list_any, Cmp.Lexicographic.bytes_decides}
 use Rattle.echo_addr.specs.Address.{address_text}
-use Rattle.echo_text.specs.Lines.{begins, is_tag, lines, msgid_word, origin_word, trimmed}
+use Rattle.echo_text.{specs.Lines.{begins, is_tag, lines, msgid_word, origin_word, trimmed}, proofs.Tails.{all_tail, tail_later}}
 use Rattle.echo_text.specs.{Tail.is_tail_line, Tail.tail, Echo.IsEcho, Echo.is_shed, Echo.msgid_of, Ids.id_of, Ids.is_zero, Ids.is_line_byte}
-use Rattle.echo_text.proofs.Tails.{all_tail, tail_later}
 use Rattle.model_steps.specs.Posting.{IsAllowed, holds_zero, origin_line, post_refusal, posted, posted_lines, posting, reply_lines}
-use Rattle.model_steps.specs.{ReplyIds.is_reply_id, declared.draft.Draft.Draft, declared.stamp.Stamp.Stamp}
+use Rattle.model_steps.{specs.{ReplyIds.is_reply_id, declared.{draft.Draft.Draft, stamp.Stamp.Stamp}}, proofs.OwnIds.{own_id_is_id, plain_id}}
 use Rattle.echo_links.specs.Links.{Area, IsArea, IsFile, LinkFile, has_area}
 use Rattle.echo_filed.specs.Filed.{Filed, id_line}
 use Rattle.echo_filed.proofs.{Plain.IsLineByte, Plain.Plain, Plain.all_append, Plain.lines_plain, Plain.no_zero, Plain.plain_address, Plain.plain_if, Plain.plain_line, Choices.all_weaker, Keys.msgid_first}
-use Rattle.model_steps.proofs.OwnIds.{own_id_is_id, plain_id}
 
 passed : {F : Type 0} (b : Bool) (f : F) (rest : Option F) → cond b (Some f) rest ≡ None → (b ≡ false) × (rest ≡ None)
 passed true f rest h = absurd (cc)

@@ -1,5 +1,4 @@
-use Rattle.std.proofs.Common.{◌≡◌, Bool, true, false, cond, List, refl, Option, Some, None, arith}
-use Rattle.std.proofs.lemmas.Bool.{cond-false, not-false, not_from_true}
+use Rattle.std.proofs.{Common.{◌≡◌, Bool, true, false, cond, List, refl, Option, Some, None, arith}, lemmas.Bool.{cond-false, not-false, not_from_true}}
 use Rattle.echo_addr.specs.declared.address.Address.{Address}
 use Rattle.echo_packet.specs.Message.{Message}
 use Rattle.echo_text.specs.declared.fault.TextFault.{TextFault}

@@ -3,8 +3,7 @@ pub use Rattle.echo_filed.specs.Filed.{has_id}
 use Rattle.std.specs.Prelude.{◌≡◌, ℕ, ◌⊎◌, ◌==◌, ◌||◌, not, nat_lt, Bool, true, false, List, [], ◌∷◌, ◌++◌, length, codes, if◌then◌else◌, Option, Some, None, is_none, Result, Ok, Err}
 use Rattle.std.specs.List.{list_any}
 use Rattle.echo_addr.specs.Address.{address_text}
-use Rattle.echo_text.specs.Lines.{lines, msgid_word, origin_word, reply_word, trimmed}
-use Rattle.echo_text.specs.Ids.{id_of, is_zero}
+use Rattle.echo_text.specs.{Lines.{lines, msgid_word, origin_word, reply_word, trimmed}, Ids.{id_of, is_zero}}
 use Rattle.echo_packet.specs.Message.{max_name, max_subject}
 use Rattle.model_steps.specs.{declared.draft.Draft.Draft, declared.stamp.Stamp.Stamp, declared.fault.PostFault.PostFault, Stamps.date_of, Stamps.is_stamp}
 use Rattle.model_steps.specs.{SystemState.SystemState, SystemState.state_with, ReplyIds.is_reply_id}
@@ -44,8 +43,7 @@ holds_zero draft =
 
 -- A name or the subject is too long for a packed message.
 abbrev pub is_too_long : Draft → Bool
-is_too_long draft =
-    nat_lt max_name (length draft.to_name) || (nat_lt max_name (length draft.from_name) || nat_lt max_subject (length draft.subject))
+is_too_long draft = nat_lt max_name (length draft.to_name) || (nat_lt max_name (length draft.from_name) || nat_lt max_subject (length draft.subject))
 
 -- The first refusal that applies to a posting.
 unfoldable pub post_refusal : LinkFile → List Filed → List ℕ → Draft → ℕ → Stamp → Option PostFault
@@ -85,8 +83,7 @@ IsFirstRefusal file base tag draft serial stamp fault.Memory = ⊥
 
 -- The message that a posting files.
 unfoldable pub posting : LinkFile → List Filed → List ℕ → Draft → ℕ → Stamp → Option Filed
-posting file base tag draft serial stamp =
-    if is_none (post_refusal file base tag draft serial stamp) then Some (posted file tag draft serial stamp) else None
+posting file base tag draft serial stamp = if is_none (post_refusal file base tag draft serial stamp) then Some (posted file tag draft serial stamp) else None
 
 -- A refused posting returns the first refusal that applies, or out of memory for a draft without fault.
 abbrev pub IsPostFault : LinkFile → List Filed → List ℕ → Draft → ℕ → Stamp → PostFault → Type 0

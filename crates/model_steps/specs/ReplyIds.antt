@@ -1,6 +1,5 @@
 -- The ids that a REPLY line may name (FTS-0009). Other programs also write serials with more or fewer than eight digits.
-use Rattle.std.specs.Prelude.{ℕ, ◌-◌, ◌||◌, ◌&&◌, nat_lt, Bool, List, length, take}
-use Rattle.std.specs.{Char.is_ascii_hexdigit, List.list_all, List.suffix_len}
+use Rattle.std.specs.{Prelude.{ℕ, ◌-◌, ◌||◌, ◌&&◌, nat_lt, Bool, List, length, take}, Char.is_ascii_hexdigit, List.{list_all, suffix_len}}
 use Rattle.echo_text.specs.{Lines.trimmed, Ids.is_bare_origin, Ids.is_line_byte, Ids.is_quoted_origin, Ids.without_gap}
 
 -- An origin, in double quotes or without.

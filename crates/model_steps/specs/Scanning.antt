@@ -19,8 +19,7 @@ is_seen_by m address = list_any (same_entry (net_node_of address)) m.echo.seen
 
 -- The receivers of a message: the links of its area that did not send it and are not in its SEEN-BY.
 unfoldable pub targets : LinkFile → Filed → List Address
-targets file m =
-    filter (λ link. not (is_sender m link) && not (is_seen_by m link)) (links_of file m.echo.tag)
+targets file m = filter (λ link. not (is_sender m link) && not (is_seen_by m link)) (links_of file m.echo.tag)
 
 -- The exported text. Its SEEN-BY gains the own net/node and those of the links, its PATH ends with the own.
 unfoldable pub exported : LinkFile → EchoText → EchoText

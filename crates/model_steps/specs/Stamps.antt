@@ -1,6 +1,5 @@
 -- Dates with times, and their form in DateTime (FTS-0001).
-use Rattle.std.specs.Prelude.{ℕ, ◌+◌, ◌-◌, ◌*◌, ◌/◌, ◌%◌, ◌&&◌, Bool, List, [], ◌∷◌, ◌++◌, take, drop, codes}
-use Rattle.std.specs.Int.{is_in_range}
+use Rattle.std.specs.{Prelude.{ℕ, ◌+◌, ◌-◌, ◌*◌, ◌/◌, ◌%◌, ◌&&◌, Bool, List, [], ◌∷◌, ◌++◌, take, drop, codes}, Int.is_in_range}
 use Rattle.model_steps.specs.declared.stamp.Stamp.{Stamp}
 
 -- Each part is in its range.

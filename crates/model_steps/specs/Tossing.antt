@@ -34,8 +34,7 @@ outcome_after file base sender m (Some refused) = outcome.BadTag
 
 -- The outcome of a message: the first one that applies.
 unfoldable pub toss_outcome : LinkFile → List Filed → Address → Message → Outcome
-toss_outcome file base sender packed =
-    outcome_after file base sender (received sender packed) (text_refusal packed.text)
+toss_outcome file base sender packed = outcome_after file base sender (received sender packed) (text_refusal packed.text)
 
 abbrev pub where_filed : Outcome → Filed → Option Filed
 where_filed outcome.Filed m = Some m
@@ -73,8 +72,7 @@ TossStep old sender packed (Err refused) new = new ≡ old
 -- The base after tossing messages of one sender in order.
 abbrev pub tossed : LinkFile → List Filed → Address → List Message → List Filed
 tossed file base sender [] = base
-tossed file base sender (packed ∷ later) =
-    tossed file (base ++ option_to_list (tossing file base sender packed)) sender later
+tossed file base sender (packed ∷ later) = tossed file (base ++ option_to_list (tossing file base sender packed)) sender later
 
 abbrev pub outcomes : LinkFile → List Filed → Address → List Message → List Outcome
 outcomes file base sender [] = []

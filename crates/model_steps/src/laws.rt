@@ -1,7 +1,6 @@
 //! Laws about the definitions. Each law is the contract of a function that does nothing.
 
-ghost use Rattle.std.specs.Prelude.{◌≡◌, ◌↔◌, ℕ, List, [], ◌∷◌, ◌++◌, Some, None, true, false};
-ghost use Rattle.std.specs.List.{AllByRecursion, list_any};
+ghost use Rattle.std.specs.{Prelude.{◌≡◌, ◌↔◌, ℕ, List, [], ◌∷◌, ◌++◌, Some, None, true, false}, List.{AllByRecursion, list_any}};
 ghost use Rattle.echo_addr.specs.declared.address.Address.{Address};
 ghost use Rattle.echo_packet.specs.Message.{IsMessage, Message};
 ghost use Rattle.echo_text.specs.{Echo.IsEcho, Echo.msgid_of, Refusal.text_refusal, Ids.id_of};

@@ -1,8 +1,6 @@
 -- A device that failed.
-use Rattle.std.proofs.Common.{◌≤◌, ◌⊎◌, inl, inr, ⊎_elim, ℕ, List, refl, arith}
-use Rattle.std.proofs.lemmas.Bool.{cases_lt}
-use Rattle.disk_io.specs.{Device.Failed, Disk.DiskState, Runs.ChangesNothing}
-use Rattle.disk_io.proofs.Moments.{no_call}
+use Rattle.std.proofs.{Common.{◌≤◌, ◌⊎◌, inl, inr, ⊎_elim, ℕ, List, refl, arith}, lemmas.Bool.cases_lt}
+use Rattle.disk_io.{specs.{Device.Failed, Disk.DiskState, Runs.ChangesNothing}, proofs.Moments.no_call}
 use Rattle.cmd_status.specs.declared.fault.Fault.{Fault}
 use Rattle.station.specs.{Faults.FailsAt, Links.NoLinks, Opening.IsNotOpened, Place.Place}
 

@@ -1,6 +1,5 @@
 -- The size of a file, or its absence.
-use Rattle.std.proofs.Common.{◌≡◌, ◌↔◌, ℕ, Bool, true, false, List, length, Option, Some, None, refl, ap}
-use Rattle.std.specs.Prelude.{IsSome, IsTrue}
+use Rattle.std.{proofs.Common.{◌≡◌, ◌↔◌, ℕ, Bool, true, false, List, length, Option, Some, None, refl, ap}, specs.Prelude.{IsSome, IsTrue}}
 use Rattle.disk_io.specs.Disk.{bytes_in}
 use Rattle.station.specs.Faults.{HasSize}
 

@@ -1,7 +1,6 @@
 -- The packet file at a path of a disk.
 use Rattle.std.specs.Prelude.{◌≡◌, ◌<◌, ◌≤◌, List, length, ℕ, Option, Some, None}
-use Rattle.station.specs.{PacketsOnDisk.most_held, declared.packets.Found.Found}
-use Rattle.station.specs.declared.packets.Found.TheVariants.{Missing, Unheld, Whole}
+use Rattle.station.specs.{PacketsOnDisk.most_held, declared.packets.Found.{Found, TheVariants.{Missing, Unheld, Whole}}}
 
 -- The file has more bytes than memory may hold.
 abbrev pub IsLarge : Option (List ℕ) → Type 0

@@ -5,8 +5,7 @@ use Rattle.disk_io.specs.{Disk.DiskState, Disk.Files, Runs.ChangesNothing, Runs.
 use Rattle.echo_links.specs.Links.{LinkFile}
 use Rattle.cmd_status.specs.{declared.fault.Fault.Fault, Devices.Output}
 use Rattle.base_store.specs.{Store.StoreState, declared.store_error.StoreError.TheVariants.Damaged, declared.store_error.StoreError.TheVariants.Device}
-use Rattle.cmd_store.specs.declared.command_error.CommandError.{CommandError, TheVariants.Met, TheVariants.Store}
-use Rattle.cmd_store.specs.Bounded.{IsPast}
+use Rattle.cmd_store.specs.{declared.command_error.CommandError.{CommandError, TheVariants.{Met, Store}}, Bounded.IsPast}
 use Rattle.echo_filed.specs.Filed.{Filed}
 use Rattle.station.specs.{Opening.IsOpenFor, Place.IsOfPlace, Place.Place, Place.SameElsewhere, Place.RepresentsOrWasLeft}
 

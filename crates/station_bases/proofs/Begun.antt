@@ -1,9 +1,7 @@
 -- A folder that was begun, as an open station.
-use Rattle.std.proofs.Common.{◌≤◌, ◌⊎◌, ℕ, Bool, List, Result, Ok, Err, ⊎_elim, inl, inr, arith}
-use Rattle.std.specs.Prelude.{IfErr}
+use Rattle.std.{proofs.Common.{◌≤◌, ◌⊎◌, ℕ, Bool, List, Result, Ok, Err, ⊎_elim, inl, inr, arith}, specs.Prelude.IfErr}
 use Rattle.base_file.specs.Base.{Base}
-use Rattle.disk_io.specs.{Disk.DiskState, Disk.Honestly, Runs.ChangesNothing, Runs.LeavesOnly}
-use Rattle.disk_io.proofs.Moments.{weaker_run}
+use Rattle.disk_io.{specs.{Disk.{DiskState, Honestly}, Runs.{ChangesNothing, LeavesOnly}}, proofs.Moments.weaker_run}
 use Rattle.base_log.specs.Moments.{KeepsOutside}
 use Rattle.station_bases.specs.{Opening.IsBegun, Opening.IsLockedOut, Opening.IsOfFolder, Opening.IsShut, InFolder.IsFolderShut, InFolder.IsOwnLinks, InFolder.folder_place}
 use Rattle.base_folder.specs.Wrong.{IsSound}

@@ -3,11 +3,10 @@ use Rattle.std.proofs.Common.{◌≡◌, ℕ, ◌+◌, ◌-◌, ◌*◌, ◌/◌
 use Rattle.std.proofs.lemmas.List.{append-nil, drop-append-le, drop-drop, drop_at, length-map, length-take-le, take-append-drop, take_at}
 use Rattle.std.specs.List.{AllByRecursion, flat_map}
 use Rattle.echo_filed.specs.{Filed.Filed, Stored.Stored, Stored.message_in, Stored.stored_bytes, declared.key.Key.Key, declared.stored.Version.Version, declared.stored.Version.TheVariants.Second}
-use Rattle.base_file.specs.BaseFile.{AreSound, BaseOf, Begins, head_bytes, magic, stored_from}
+use Rattle.base_file.{specs.BaseFile.{AreSound, BaseOf, Begins, head_bytes, magic, stored_from}, proofs.{SavedAgain.saved_again, SavedMessages.saved_parts}}
 use Rattle.base_file.specs.{Alone.MayStandAlone, Base.Base, Base.IsBase, Base.is_known, Pieces.BeginsWith, Pieces.IsJudged, declared.base.loading.Head.Head}
 use Rattle.base_file.specs.declared.piece.Next.TheVariants as next
 use Rattle.base_file.proofs.{LoneMessages.represented_alone, Loaded.all_filed, Loaded.loaded_is_base, Loading.say_more, Loading.whole_loads, Pieces.head_begins, Pieces.next_begins}
-use Rattle.base_file.proofs.{SavedAgain.saved_again, SavedMessages.saved_parts}
 use Rattle.cmd_status.specs.Inputs.{IsBaseGiven}
 use Rattle.base_store.specs.{Keys.digested, Keys.digested_key, Keys.entry, Keys.keys_from, Sip.sip_digest, declared.sip.SipDigest.SipDigest}
 use Rattle.base_store.proofs.{Digests.of_key, Placed.keys_append, Placed.keys_long}

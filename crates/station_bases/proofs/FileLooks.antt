@@ -7,11 +7,10 @@ use Rattle.cmd_status.specs.Inputs.{IsBaseGiven}
 use Rattle.base_file.specs.{Base.Base, BaseFile.saved_bytes}
 use Rattle.base_store.specs.{Store.Commits, Store.HasStoreCause, Store.MayCommit, Store.StoreState, declared.store_error.StoreError.StoreError}
 use Rattle.base_store.specs.declared.store_error.StoreError.TheVariants as error
-use Rattle.base_folder_store.specs.Answers.{Answers, HasReadCause}
+use Rattle.base_folder_store.{specs.Answers.{Answers, HasReadCause}, proofs.{Causes.on_ok_from, Stated.not_damaged}}
 use Rattle.station_bases.specs.{Entries.CanLookUp, Entries.HoldEntries, Entries.file_bytes, InFile.IsHeld, InFile.IsOfFile, InFile.file_state, declared.entries.Entries.Entries}
 use Rattle.station_bases.specs.declared.held.Held.{TheVariants.Apart, Held}
 use Rattle.station_bases.proofs.{EntryMore.few_held, EntryMore.held_loads, EntryMore.many_held, Written.may_commit, Written.put_now, Written.put_run}
-use Rattle.base_folder_store.proofs.{Causes.on_ok_from, Stated.not_damaged}
 
 module _ {S T : Type 0} (path own : List ℕ) (held later : Held S T) (d0 d1 : DiskState) (p0 p1 : ℕ) (u0 u1 : Bool) where
   pub file_cause : {A : Type 0} (P : Base → A → Type 0) (before now : ℕ) (r : Result A StoreError) → HasReadCause before now r → Honestly d1 ((b : Base) → IsHeld d0 path held b → Answers (P b) r)

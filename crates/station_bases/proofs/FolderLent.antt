@@ -1,17 +1,14 @@
 -- The disk of a base folder after its use for other files.
 use Rattle.std.proofs.Common.{◌≡◌, ◌≢◌, ◌↔◌, ◌≤◌, ◌++◌, ℕ, Bool, true, false, All, IsTrue, List, Option, length, sym, drop, ◌∙◌, ap, refl, subst, arith}
-use Rattle.std.proofs.lemmas.List.{drop_at}
-use Rattle.std.specs.Prelude.{IsSome}
+use Rattle.std.{proofs.lemmas.List.drop_at, specs.Prelude.IsSome}
 use Rattle.echo_filed.specs.Filed.{Filed}
-use Rattle.disk_io.specs.{Disk.DiskState, Disk.Files, Disk.IsIn, Disk.bytes_in, Runs.OneStepOn, Synced.IsOnDisk}
-use Rattle.disk_io.proofs.Moments.{left_now}
+use Rattle.disk_io.{specs.{Disk.{DiskState, Files, IsIn, bytes_in}, Runs.OneStepOn, Synced.IsOnDisk}, proofs.Moments.left_now}
 use Rattle.base_log.specs.{AtRest.IsStaged, Names.keys_of, Names.log_of, Names.messages_of, Standing.BaseBytes, Standing.IsEnded, Standing.Represents, Standing.base_at}
 use Rattle.base_log.specs.declared.log.{End.End, CommitRecord.CommitRecord}
 use Rattle.base_log.proofs.{Paths.keys_in, Paths.log_in, Paths.messages_in, Same.AreThere-same, Same.RecordsBase-same}
 use Rattle.base_folder_store.specs.{Ahead.AreParts, Held.HoldsBase, Opened.and_waiting, Opened.held_by, Opened.path_of, State.IsCached, State.state_of, State.where_so, declared.folder.Folder.Folder, declared.read_ahead.Buffers.Buffers}
 use Rattle.base_store.specs.{Index.IsIndexOf, Store.StoreState, declared.index.Index.Index}
-use Rattle.disk_atomic.specs.Changes.{ChangesOnly, DifferAt}
-use Rattle.disk_atomic.proofs.Changes.{wider}
+use Rattle.disk_atomic.{specs.Changes.{ChangesOnly, DifferAt}, proofs.Changes.wider}
 use Rattle.station.specs.Beneath.{AreSettledByOwn, HoldsAsBefore, IsUsedAt}
 
 -- states with the same files in the folder end alike

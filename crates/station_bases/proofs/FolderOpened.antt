@@ -2,8 +2,7 @@
 use Rattle.std.proofs.Common.{◌≡◌, ℕ, Bool, List, subst, sym, arith}
 use Rattle.echo_addr.specs.declared.address.Address.{Address}
 use Rattle.base_file.specs.Base.{Base}
-use Rattle.disk_io.specs.{Disk.DiskState, Disk.Files, Runs.ChangesNothing}
-use Rattle.disk_io.proofs.Moments.{nothing_twice}
+use Rattle.disk_io.{specs.{Disk.{DiskState, Files}, Runs.ChangesNothing}, proofs.Moments.nothing_twice}
 use Rattle.base_log.proofs.{Keeping.outside_quiet, Keeping.outside_twice, Quiet.seen_quiet as seen_same}
 use Rattle.base_folder.specs.{Ours.IsLeftAlone, Ours.IsNotOurs, Unopened.OpensOnly, Wrong.IsSound, declared.open_error.OpenError.OpenError}
 use Rattle.base_folder.proofs.Openings.{opened_run_since}

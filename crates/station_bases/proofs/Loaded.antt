@@ -1,9 +1,8 @@
 -- The answer of loading the bytes of a base.
 use Rattle.std.proofs.Common.{◌≡◌, ◌≢◌, ◌<◌, ◌≤◌, ◌-◌, ◌^◌, ℕ, [], ap, Result, Ok, Err, arith, ⊎_elim}
 use Rattle.disk_io.specs.Device.{Failed}
-use Rattle.base_file.specs.{Base.Base, BaseFile.Loaded, Loading.AnswersLoad, Loading.CountsLoad, declared.fault.BaseFault.BaseFault}
+use Rattle.base_file.{specs.{Base.Base, BaseFile.Loaded, Loading.{AnswersLoad, CountsLoad}, declared.fault.BaseFault.BaseFault}, proofs.OneBase.ok_no_err}
 use Rattle.base_file.specs.declared.fault.BaseFault.TheVariants as fault
-use Rattle.base_file.proofs.OneBase.{ok_no_err}
 
 abbrev pub base_in : Result Loaded BaseFault → Base
 base_in (Ok loaded) = record { messages = loaded.0; cursor = loaded.1 }

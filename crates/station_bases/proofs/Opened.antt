@@ -1,18 +1,15 @@
 -- A base file opened as a store.
 use Rattle.std.proofs.Common.{◌≡◌, ◌≤◌, ◌⊎◌, ◌∙◌, inl, inr, ⊎_elim, ℕ, Bool, false, List, Option, None, Some, Result, Ok, Err, ap, arith, refl, subst, sym}
 use Rattle.std.specs.Prelude.{All, ◌≢◌, IfErr, IsSome}
-use Rattle.base_file.specs.Base.{Base}
-use Rattle.base_file.proofs.Loading.{base_is}
+use Rattle.base_file.{specs.Base.Base, proofs.Loading.base_is}
 use Rattle.echo_filed.specs.Filed.{Filed}
-use Rattle.disk_io.specs.{Disk.DiskState, Disk.Files, Disk.Honestly, Disk.bytes_in, Runs.ChangesNothing}
-use Rattle.disk_io.proofs.Moments.{weaker_run}
+use Rattle.disk_io.{specs.{Disk.{DiskState, Files, Honestly, bytes_in}, Runs.ChangesNothing}, proofs.Moments.weaker_run}
 use Rattle.echo_links.specs.Links.{LinkFile}
 use Rattle.cmd_status.specs.{Inputs.IsBaseGiven, declared.fault.Fault.Fault}
 use Rattle.station.proofs.Failures.{fails_wider, no_links_wider, not_locked, nothing_done}
 use Rattle.station.specs.{Faults.FailsAt, Links.AreLinks, Opening.IsNotOpened, Opening.IsOpenFor, Opening.IsOpened, Place.IsOfPlace, Place.KeepsElsewhere, Place.RepresentsOrWasLeft}
 use Rattle.station_bases.specs.{InFile.IsHeld, InFile.IsReadAs, InFile.IsWithinReach, InFile.RepresentsInFile, InFile.file_state, declared.held.Held.Held, declared.held.Held.TheVariants.Whole}
-use Rattle.station_bases.proofs.Loaded.{base_in}
-use Rattle.station_bases.specs.Reading.{IsFileShut, IsSettled, IsShutFor, IsUnreadFor, file_place}
+use Rattle.station_bases.{proofs.Loaded.base_in, specs.Reading.{IsFileShut, IsSettled, IsShutFor, IsUnreadFor, file_place}}
 
 -- the base in the bytes of an existing file
 pub given_by : (f : Option (List ℕ)) (messages : List Filed) (cursor : ℕ) → IsSome f → IsBaseGiven (Some (bytes_in f)) messages cursor → IsBaseGiven f messages cursor

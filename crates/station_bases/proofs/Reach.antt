@@ -1,6 +1,5 @@
 -- A base file that is unchanged.
-use Rattle.std.proofs.Common.{◌≡◌, ◌≤◌, ℕ, List, length, sym, ap, subst, Option, arith}
-use Rattle.std.specs.Prelude.{IsSome}
+use Rattle.std.{proofs.Common.{◌≡◌, ◌≤◌, ℕ, List, length, sym, ap, subst, Option, arith}, specs.Prelude.IsSome}
 use Rattle.disk_io.specs.{Disk.DiskState, Disk.bytes_in, Runs.ChangesNothing}
 use Rattle.base_file.specs.Base.{Base}
 use Rattle.base_folder_store.specs.Ahead.{IsPartOf}

@@ -1,13 +1,11 @@
 -- A base that replaced its file.
 use Rattle.std.proofs.Common.{◌≡◌, ℕ, Bool, false, List, Some, subst, sym, arith}
 use Rattle.base_file.specs.Base.{Base}
-use Rattle.disk_io.specs.{Disk.DiskState, Disk.Files, Disk.Honestly, Runs.ChangesNothing, Runs.LeavesOnly, Runs.OneStepOn}
-use Rattle.disk_io.proofs.Moments.{weaker_run}
+use Rattle.disk_io.{specs.{Disk.{DiskState, Files, Honestly}, Runs.{ChangesNothing, LeavesOnly, OneStepOn}}, proofs.Moments.weaker_run}
 use Rattle.disk_atomic.specs.{Changes.ChangesOnly, Changes.HasOnDisk, Replacing.Replaces, StagingPaths.staging_path}
 use Rattle.cmd_status.specs.Inputs.{IsBaseGiven}
 use Rattle.base_store.specs.Store.{CommitsNothing, IsSameStore, KeepsOthers, MayCommit, StoreState}
-use Rattle.station_bases.specs.InFile.{IsHeld, IsInFile, IsOfFile, PutsBase, RepresentsInFile, file_state}
-use Rattle.station_bases.specs.declared.held.Held.{Held}
+use Rattle.station_bases.specs.{InFile.{IsHeld, IsInFile, IsOfFile, PutsBase, RepresentsInFile, file_state}, declared.held.Held.Held}
 
 pub represented_now : (path bytes : List ℕ) (base : Base) (c : Files) → IsBaseGiven (Some bytes) base.messages base.cursor → c path ≡ Some bytes → RepresentsInFile path base c
 represented_now path bytes base c says is = subst (λ f. IsBaseGiven f base.messages base.cursor) (sym is) says

@@ -6,8 +6,7 @@ use Rattle.echo_filed.specs.Filed.{Filed}
 use Rattle.disk_atomic.specs.{Changes.DifferAt, StagingPaths.staging_path}
 use Rattle.cmd_status.specs.Inputs.{IsBaseGiven}
 use Rattle.base_store.specs.Store.{StoreState}
-use Rattle.station_bases.specs.{Entries.CanLookUp, Entries.HasRoomFor, Entries.HoldEntries, declared.held.Held.Held}
-use Rattle.station_bases.specs.declared.held.Held.TheVariants.{Apart, Whole}
+use Rattle.station_bases.specs.{Entries.{CanLookUp, HasRoomFor, HoldEntries}, declared.held.Held.{Held, TheVariants.{Apart, Whole}}}
 
 -- The path has a base file of this base, or there is no file and the base is empty.
 abbrev pub RepresentsInFile : List ℕ → Base → Files → Type 0

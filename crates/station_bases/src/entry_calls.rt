@@ -1,6 +1,5 @@
 //! The calls of a store on a base file with its messages left in the file.
-ghost use Rattle.std.specs.Prelude.{◌≡◌, ◌<◌, ◌≤◌, ◌/◌, ℕ, List, false, length, slice_get, option_copied, IsErrOf, OnErr, OnOk};
-ghost use Rattle.std.specs.List.{list_any};
+ghost use Rattle.std.specs.{Prelude.{◌≡◌, ◌<◌, ◌≤◌, ◌/◌, ℕ, List, false, length, slice_get, option_copied, IsErrOf, OnErr, OnOk}, List.list_any};
 ghost use Rattle.disk_io.specs.{Disk.Honestly, Disk.bytes_in, Runs.ChangesNothing};
 ghost use Rattle.echo_filed.specs.Filed.{has_id, key_of};
 ghost use Rattle.base_file.specs.Base.{Base, is_known};

@@ -5,8 +5,7 @@ ghost use Rattle.echo_filed.specs.{Filed.Filed, declared.stored.Version.TheVaria
 ghost use Rattle.base_file.specs.{Base.Base, Base.is_known, Pieces.BeginsWith};
 ghost use Rattle.base_folder_store.specs.Ahead.{IsPartOf as IsReadPart};
 ghost use Rattle.base_store.specs.Keys.{digested_key, entry};
-ghost use Rattle.station_bases.specs.Entries.{AreEntriesOf, AreIndexed, CanLookUp, HoldEntries, entry_digest};
-ghost use Rattle.station_bases.specs.InFile.{RepresentsInFile};
+ghost use Rattle.station_bases.specs.{Entries.{AreEntriesOf, AreIndexed, CanLookUp, HoldEntries, entry_digest}, InFile.RepresentsInFile};
 ghost use Rattle.station_bases.specs.EntryOpening.{AreJudged, HasJudged, IsPartOf, IsSoundIn, StaysIndexed};
 
 use crate::entries::{Entries, HEAD};

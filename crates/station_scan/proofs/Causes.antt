@@ -1,6 +1,5 @@
 -- Why packets were not written.
-use Rattle.std.proofs.Common.{◌≡◌, ◌≤◌, ℕ, arith}
-use Rattle.std.specs.Prelude.{Err, IsErrOf}
+use Rattle.std.{proofs.Common.{◌≡◌, ◌≤◌, ℕ, arith}, specs.Prelude.{Err, IsErrOf}}
 use Rattle.disk_atomic.specs.declared.placing_error.PlacingError.TheVariants as placing
 use Rattle.base_store.specs.Store.{StoreState}
 use Rattle.station.proofs.Failures.{failed_wider}

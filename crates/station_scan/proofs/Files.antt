@@ -1,7 +1,6 @@
 -- The packets of a pass as the files of a scan.
 use Rattle.std.proofs.Common.{◌≡◌, inl, inr, ⊎_elim, ◌∙◌, ℕ, List, [], ◌∷◌, map, refl, sym, subst, ap, append_assoc, arith}
-use Rattle.std.proofs.lemmas.List.Elements.{All-contains, All-map}
-use Rattle.std.specs.Prelude.{All, Contains, None}
+use Rattle.std.{proofs.lemmas.List.Elements.{All-contains, All-map}, specs.Prelude.{All, Contains, None}}
 use Rattle.base_file.specs.Base.{Base}
 use Rattle.disk_io.specs.Disk.{DiskState, Files}
 use Rattle.disk_atomic.specs.{ListStaged.IsNameByte, Naming.HasItsPath, Naming.IsWholeAtEither, Outgoing.IsAtStaging, Outgoing.IsFree, Outgoing.SendsBytes, declared.outgoing.Outgoing.Outgoing}
@@ -9,8 +8,7 @@ use Rattle.disk_atomic.proofs.Packets.{nobody}
 use Rattle.echo_addr.specs.declared.address.Address.{Address}
 use Rattle.model_steps.specs.{PacketFiles.PacketFile, Scanning.header_to}
 use Rattle.cmd_store.specs.PacketLines.{file_sent, packet_name}
-use Rattle.echo_toss.specs.{Counts.bytes_for, Counts.link_set, Exports.OutgoingMessage as Sent, Exports.nowhere, Exports.packet_out}
-use Rattle.echo_toss.proofs.Counts.{scanned_to}
+use Rattle.echo_toss.{specs.{Counts.{bytes_for, link_set}, Exports.{OutgoingMessage as Sent, nowhere, packet_out}}, proofs.Counts.scanned_to}
 use Rattle.station_scan.specs.Sending.{AreRoutes, HasBytes, IsAtItsPath, IsFreeAt, IsOfPacket, IsOffOwn, IsStagingGone, IsStagingOfPacket, IsWhole, file_paths, for_address}
 use Rattle.station_scan.specs.Passing.{AreFor, FitTo, IsFront, IsGrowingTo, IsRouted, IsStagingTo, IsTakenFor, all_sent, is_made, links_to}
 use Rattle.station_scan.specs.{Fitting.AreFit, Fitting.AreTaken, Publishing.IsFreeIn, Publishing.IsGoingAt, Publishing.ended_in, Scanning.packets_in, declared.sending.Sending.Sending}

@@ -4,8 +4,7 @@ use Rattle.std.proofs.{lemmas.Bool.cases_lt, lemmas.List.get_or_append_left, Mat
 use Rattle.std.specs.Prelude.{All, AllPairs, Contains, IsSome, Option}
 use Rattle.disk_atomic.specs.{StagingPaths.staging_path, declared.listing.StagedPacket.StagedPacket}
 use Rattle.disk_io.specs.Disk.{Files}
-use Rattle.station_scan.specs.Left.{Adds, AreFound, HaveOtherLeft, IsAmong, IsStagingThere, IsFound, IsFoundWhere}
-use Rattle.station_scan.specs.declared.finding.LeftPaths.{LeftPaths}
+use Rattle.station_scan.specs.{Left.{Adds, AreFound, HaveOtherLeft, IsAmong, IsStagingThere, IsFound, IsFoundWhere}, declared.finding.LeftPaths.LeftPaths}
 
 -- one more behind those that are related to it
 pub pairs_more : {X : Type 0} (R : X → X → Type 0) (xs : List X) (y : X) → AllPairs R xs → All (λ (x : X). R x y) xs → AllPairs R (xs ++ y ∷ [])

@@ -1,8 +1,6 @@
 -- A store that was looked through, before packets were sent out with its commit.
-use Rattle.std.proofs.Common.{◌≡◌, ◌⊎◌, inl, inr, ⊎_elim, ◌∙◌, ℕ, List, refl, subst, arith}
-use Rattle.std.specs.Prelude.{All, Err, Ok, OnOk, Result}
-use Rattle.disk_io.specs.{Disk.DiskState, Disk.Files, Runs.ChangesNothing, Runs.LeavesOnly, Runs.OneStepOn}
-use Rattle.disk_io.proofs.Moments.{then_run, weaker_run}
+use Rattle.std.{proofs.Common.{◌≡◌, ◌⊎◌, inl, inr, ⊎_elim, ◌∙◌, ℕ, List, refl, subst, arith}, specs.Prelude.{All, Err, Ok, OnOk, Result}}
+use Rattle.disk_io.{specs.{Disk.{DiskState, Files}, Runs.{ChangesNothing, LeavesOnly, OneStepOn}}, proofs.Moments.{then_run, weaker_run}}
 use Rattle.disk_atomic.specs.declared.finishing.Left.{Left}
 use Rattle.cmd_store.specs.declared.command_error.CommandError.{CommandError}
 use Rattle.model_steps.specs.PacketFiles.{PacketFile}

@@ -3,10 +3,8 @@ use Rattle.std.proofs.Common.{◌≡◌, ◌≢◌, ◌∙◌, ◌+◌, ◌<◌,
 use Rattle.std.proofs.lemmas.{Bool.eqb-false, Fmt.decimal_injective, List.Elements.All-append, List.Elements.All-from_recursion}
 use Rattle.std.proofs.lemmas.List.{append-nil, append_cancel_left, append_cancel_right, get_or-append-add}
 use Rattle.std.specs.{Prelude.All, Prelude.AllPairs, List.AllByRecursion, List.flat_map}
-use Rattle.echo_addr.specs.declared.address.Address.{Address}
-use Rattle.echo_addr.proofs.Decimals.{IsDigit, digits_of_decimal}
-use Rattle.echo_filed.specs.Sets.{address_before, address_set}
-use Rattle.echo_filed.proofs.{Choices.all_weaker, Orders.address_order, Sets.ascending_pairs, Sets.set_ascending}
+use Rattle.echo_addr.{specs.declared.address.Address.Address, proofs.Decimals.{IsDigit, digits_of_decimal}}
+use Rattle.echo_filed.{specs.Sets.{address_before, address_set}, proofs.{Choices.all_weaker, Orders.address_order, Sets.{ascending_pairs, set_ascending}}}
 use Rattle.echo_links.specs.Links.{LinkFile, links_of}
 use Rattle.echo_toss.specs.Counts.{link_set}
 use Rattle.cmd_store.specs.PacketLines.{packet_name}

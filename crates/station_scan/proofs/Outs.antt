@@ -1,21 +1,17 @@
 -- Leftover packets are finished. Then the packets of a scan and the commit of its store get to the disk.
-use Rattle.std.proofs.Common.{◌≡◌, ◌<◌, ◌⊎◌, inl, inr, ⊎_elim, ◌∙◌, ℕ, List, All, get_or, subst, arith}
-use Rattle.std.proofs.lemmas.{Bool.cases_lt, List.Elements.All-contains}
+use Rattle.std.proofs.{Common.{◌≡◌, ◌<◌, ◌⊎◌, inl, inr, ⊎_elim, ◌∙◌, ℕ, List, All, get_or, subst, arith}, lemmas.{Bool.cases_lt, List.Elements.All-contains}}
 use Rattle.std.specs.Prelude.{Err, IfErr, Ok, OnOk, Result}
 use Rattle.base_file.specs.Base.{Base}
-use Rattle.disk_io.specs.{Disk.DiskState, Disk.Files, Runs.LeavesOnly, Runs.OneStepOn}
-use Rattle.disk_io.proofs.Moments.{left_now, then_run, weaker_run}
+use Rattle.disk_io.{specs.{Disk.{DiskState, Files}, Runs.{LeavesOnly, OneStepOn}}, proofs.Moments.{left_now, then_run, weaker_run}}
 use Rattle.disk_atomic.specs.{Finishing.FinishesEach, Finishing.IsOfLeft, Finishing.IsOver, declared.finishing.Left.Left, declared.placing_error.PlacingError.PlacingError}
 use Rattle.disk_atomic.specs.declared.placing_error.PlacingError.TheVariants.{Device, Taken}
 use Rattle.model_steps.specs.PacketFiles.{PacketFile}
-use Rattle.base_store.specs.Store.{StoreState}
-use Rattle.base_store.proofs.Runs.{same_twice}
+use Rattle.base_store.{specs.Store.StoreState, proofs.Runs.same_twice}
 use Rattle.station.specs.Beneath.{IsUsedAt}
-use Rattle.station_scan.specs.Left.{AreFreeLeft, EndsLeft, IsEnded, IsLeftOf, IsOfNameOff}
+use Rattle.station_scan.specs.{Left.{AreFreeLeft, EndsLeft, IsEnded, IsLeftOf, IsOfNameOff}, declared.scan_error.ScanError.TheVariants.Placing}
 use Rattle.station_scan.specs.Scanning.{AreSentOut, CommitsScan, IsTaken, IsTouched, PreparesScan, SendsOut}
 use Rattle.station_scan.specs.{Fitting.AreTaken, Publishing.IsOnDisk, Publishing.KeepsStoreBut, Sending.HasBytes, Sending.IsAtItsPath, Sending.IsFreeAt, Sending.IsStagingGone}
 use Rattle.station_scan.specs.{Sends.AreSentOn, Sends.IsLeftAs, Sends.IsOfThese, Sends.SendsThese, Sends.WritesStaging, Stops.IsOfPlacing, Stops.most, declared.scan_error.ScanError.ScanError}
-use Rattle.station_scan.specs.declared.scan_error.ScanError.TheVariants.{Placing}
 use Rattle.station_scan.proofs.{Published.keeps_only, Published.keeps_then, Published.keeps_wider, Stops.placing_why, Stops.put_wider, Stops.tells_as, Stops.tells_none}
 
 -- a finished packet in the files seen

@@ -1,16 +1,14 @@
 -- Packets for links: which there are, and where they go.
 use Rattle.std.proofs.Common.{◌≡◌, ◌≢◌, inl, inr, ⊎_elim, ◌∙◌, ◌<◌, ◌&&◌, ℕ, Bool, true, false, true≢false, List, [], ◌∷◌, ◌++◌, get_or, length, filter, refl, sym, subst, ap, append_assoc, arith}
 use Rattle.std.proofs.lemmas.{Bool.cases_Bool, Bool.lt-ltb, List.append-nil, List.append_cancel_left, List.length-map, List.Elements.All-contains, List.Elements.All-map, List.Elements.Contains-get_or}
-use Rattle.std.proofs.lemmas.List.Kept.{AllPairs-filter}
-use Rattle.std.specs.Prelude.{All, AllPairs, Contains, nat_lt, not}
+use Rattle.std.{proofs.lemmas.List.Kept.AllPairs-filter, specs.Prelude.{All, AllPairs, Contains, nat_lt, not}}
 use Rattle.disk_io.specs.Disk.{IsIn}
 use Rattle.disk_atomic.specs.{ListStaged.IsNameByte, Outgoing.IsAtStaging, Outgoing.IsOfOne, StagingPaths.staging_path, declared.outgoing.Outgoing.Outgoing}
 use Rattle.disk_atomic.proofs.Packets.{nobody}
 use Rattle.echo_addr.specs.declared.address.Address.{Address}
 use Rattle.echo_packet.specs.Message.{Message}
 use Rattle.cmd_store.specs.PacketLines.{packet_name}
-use Rattle.echo_toss.specs.{Counts.copies_out, Counts.link_set, Exports.OutgoingMessage as Sent}
-use Rattle.echo_toss.proofs.Counts.{copies_append, has_later}
+use Rattle.echo_toss.{specs.{Counts.{copies_out, link_set}, Exports.OutgoingMessage as Sent}, proofs.Counts.{copies_append, has_later}}
 use Rattle.base_store.specs.Store.{StoreState}
 use Rattle.station.proofs.StagingPaths.{staging_other}
 use Rattle.station_scan.specs.Passing.{AreFor, Fits, IsRouted, IsStagingFor, is_begun, is_made, links_to, path_to, staging_to}

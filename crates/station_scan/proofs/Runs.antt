@@ -1,6 +1,5 @@
 -- A scan of a store that was opened, as one of the station.
-use Rattle.std.proofs.Common.{◌⊎◌, inl, inr, ⊎_elim, ◌∙◌, ℕ, List, Result, Ok, Err, refl, subst, sym, ◌++◌, arith}
-use Rattle.std.specs.Prelude.{OnOk, get_or}
+use Rattle.std.{proofs.Common.{◌⊎◌, inl, inr, ⊎_elim, ◌∙◌, ℕ, List, Result, Ok, Err, refl, subst, sym, ◌++◌, arith}, specs.Prelude.{OnOk, get_or}}
 use Rattle.base_file.specs.Base.{Base}
 use Rattle.disk_io.specs.{Disk.DiskState, Disk.Files, Runs.ChangesNothing, Runs.LeavesOnly, Runs.OneStepOn}
 use Rattle.disk_io.proofs.Moments.{left_now, then_nothing, then_run, weaker_run}
@@ -10,8 +9,7 @@ use Rattle.cmd_status.specs.Devices.{Output}
 use Rattle.model_steps.specs.{PacketFiles.PacketFile, declared.stamp.Stamp.Stamp}
 use Rattle.base_store.specs.Store.{StoreState, all_scanned}
 use Rattle.cmd_store.specs.declared.command_error.CommandError.{CommandError}
-use Rattle.station.specs.Place.{IsOfPlace, KeepsElsewhere, Place, RepresentsAlone, RepresentsOrWasLeft}
-use Rattle.station.specs.Opening.{IsOpenFor}
+use Rattle.station.specs.{Place.{IsOfPlace, KeepsElsewhere, Place, RepresentsAlone, RepresentsOrWasLeft}, Opening.IsOpenFor}
 use Rattle.station_scan.specs.Scanning.{AreSentOut, CommitsScan, IsPutAs, IsOnItsWay, IsPreparing, IsPutIn, IsPutOn, IsScanOn, IsTaken, IsTouched, MayLeave, PreparesScan, ScansOnStore, SendsOut, StopsScan, StopsScanIn, ReportsStop, packets_in}
 use Rattle.station_scan.specs.{Fitting.AreFit, Left.AreAllLeft, Left.IsLeftOf, Publishing.IsOnDisk, Publishing.UnchangedExcept, Publishing.KeepsStoreBut, Sends.IsOfThese}
 use Rattle.station_scan.specs.declared.scan_error.ScanError.{ScanError, TheVariants.Staying}

@@ -1,17 +1,14 @@
 -- A scan of a store.
-use Rattle.std.proofs.Common.{ℕ, List, [], Result, ⊎_elim, arith, inl, inr, refl, subst, sym}
-use Rattle.std.specs.Prelude.{Err, IsErrOf}
+use Rattle.std.{proofs.Common.{ℕ, List, [], Result, ⊎_elim, arith, inl, inr, refl, subst, sym}, specs.Prelude.{Err, IsErrOf}}
 use Rattle.base_file.specs.Base.{Base}
-use Rattle.disk_io.specs.{Disk.DiskState, Disk.Files, Runs.ChangesNothing}
-use Rattle.disk_io.proofs.Moments.{weaker_run}
+use Rattle.disk_io.{specs.{Disk.{DiskState, Files}, Runs.ChangesNothing}, proofs.Moments.weaker_run}
 use Rattle.echo_links.specs.Links.{LinkFile}
 use Rattle.disk_atomic.specs.StagingPaths.{dotted}
 use Rattle.cmd_status.specs.Devices.{Output}
 use Rattle.model_steps.specs.{PacketFiles.PacketFile, declared.stamp.Stamp.Stamp}
-use Rattle.base_store.specs.{Store.IsSameStore, Store.StoreState, declared.store_error.StoreError.TheVariants.Damaged}
+use Rattle.base_store.{specs.{Store.{IsSameStore, StoreState}, declared.store_error.StoreError.TheVariants.Damaged}, proofs.Runs.same_twice}
 use Rattle.cmd_store.specs.{Scanned.ScansOn, declared.command_error.CommandError.CommandError, declared.command_error.CommandError.TheVariants.Store}
 use Rattle.echo_toss.specs.PacketsIn.{state_in}
-use Rattle.base_store.proofs.Runs.{same_twice}
 use Rattle.station_scan.specs.{Publishing.KeepsStoreBut, Scanning.IsPutOn, Scanning.IsTouched, Scanning.ScansOnStore, Scanning.StopsScan, declared.scan_error.ScanError.ScanError}
 use Rattle.station_scan.specs.declared.scan_error.ScanError.TheVariants.{Command}
 use Rattle.station_scan.proofs.{Published.keeps_nothing, Published.keeps_then, Published.keeps_wider, Lefts.finishes_none, Looked.looked_out, Looked.looked_stop, Looked.same_seen}

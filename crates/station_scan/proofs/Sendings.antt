@@ -4,14 +4,12 @@ use Rattle.std.proofs.lemmas.{Result.on_ok_weaker, Bool.cases_lt, List.append-ni
 use Rattle.disk_atomic.proofs.Whole.{on_ok_any}
 use Rattle.std.specs.Prelude.{All, IfErr, IsErrOf, None, OnOk}
 use Rattle.base_file.specs.Base.{Base}
-use Rattle.disk_io.specs.{Device.Failed, Disk.DiskState, Disk.Files, Runs.LeavesOnly, Runs.OneStepOn}
-use Rattle.disk_io.proofs.Moments.{left_now, then_run, weaker_run}
+use Rattle.disk_io.{specs.{Device.Failed, Disk.{DiskState, Files}, Runs.{LeavesOnly, OneStepOn}}, proofs.Moments.{left_now, then_run, weaker_run}}
 use Rattle.disk_io.specs.declared.disk_error.DiskError.TheVariants as disk
 use Rattle.disk_atomic.specs.{Changes.DifferAt, Outgoing.IsAtStaging, Outgoing.IsFilled, Outgoing.IsFree, Trying.WasTried, declared.outgoing.Outgoing.Outgoing, declared.placing_error.PlacingError.PlacingError}
 use Rattle.disk_atomic.specs.declared.placing_error.PlacingError.TheVariants as placing
 use Rattle.model_steps.specs.PacketFiles.{PacketFile}
-use Rattle.base_store.specs.Store.{Commits, IsSameStore, LeavesEither, MayCommit, StoreState, all_scanned}
-use Rattle.base_store.proofs.Runs.{same_twice}
+use Rattle.base_store.{specs.Store.{Commits, IsSameStore, LeavesEither, MayCommit, StoreState, all_scanned}, proofs.Runs.same_twice}
 use Rattle.echo_toss.specs.{Counts.link_set, Exports.OutgoingMessage as Sent}
 use Rattle.station.specs.Beneath.{HoldsAsBefore, IsUsedAt}
 use Rattle.station_scan.specs.Passing.{AreFor, AreGrowing, CanSend, HasPassed, IsGrowingTo, IsStagingTo, all_sent, is_made, links_to}

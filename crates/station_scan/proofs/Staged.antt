@@ -1,7 +1,6 @@
 -- Packets in staging files, while a path is tried with the first of them.
-use Rattle.std.proofs.Common.{◌≡◌, ◌≢◌, ◌⊎◌, inl, inr, ⊎_elim, ◌∙◌, ◌<◌, ℕ, List, ap, arith, get_or, length, sym}
+use Rattle.std.{proofs.Common.{◌≡◌, ◌≢◌, ◌⊎◌, inl, inr, ⊎_elim, ◌∙◌, ◌<◌, ℕ, List, ap, arith, get_or, length, sym}, specs.Prelude.{All, Contains}}
 use Rattle.std.proofs.lemmas.{Bool.cases_lt, List.get_or_default, List.Elements.All-contains, List.Elements.Contains-get_or}
-use Rattle.std.specs.Prelude.{All, Contains}
 use Rattle.disk_io.specs.{Disk.DiskState, Runs.ChangesNothing}
 use Rattle.disk_atomic.specs.Outgoing.{ArePlaced, IsAtStaging, IsStaged, IsStagingFlushed, staged_in}
 use Rattle.disk_atomic.specs.{Changes.ChangesOnly, Changes.DifferAt, Changes.HasOnDisk, Trying.Tries, Trying.WasTried, declared.outgoing.Outgoing.Outgoing}

@@ -1,11 +1,9 @@
 -- Why a scan stopped.
-use Rattle.std.proofs.Common.{◌≡◌, ◌⊎◌, ℕ, List, inl, inr, ⊎_elim, subst, arith}
-use Rattle.std.specs.Prelude.{All, Err, IfErr, IsErrOf, Ok, Result}
+use Rattle.std.{proofs.Common.{◌≡◌, ◌⊎◌, ℕ, List, inl, inr, ⊎_elim, subst, arith}, specs.Prelude.{All, Err, IfErr, IsErrOf, Ok, Result}}
 use Rattle.base_file.specs.Base.{Base}
 use Rattle.disk_io.specs.declared.disk_error.DiskError.TheVariants as disk
-use Rattle.disk_atomic.specs.declared.placing_error.PlacingError.{PlacingError}
+use Rattle.disk_atomic.specs.{declared.{placing_error.PlacingError.PlacingError, outgoing.Outgoing.Outgoing}, Outgoing.IsFilled}
 use Rattle.disk_atomic.specs.declared.placing_error.PlacingError.TheVariants as placing
-use Rattle.disk_atomic.specs.{Outgoing.IsFilled, declared.outgoing.Outgoing.Outgoing}
 use Rattle.base_store.specs.Store.{Commits, StoreState}
 use Rattle.base_store.specs.declared.store_error.StoreError.TheVariants as error
 use Rattle.station.specs.Beneath.{HoldsAsBefore}

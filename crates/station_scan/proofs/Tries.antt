@@ -1,11 +1,9 @@
 -- That a scan tries whether a file gets a second path.
-use Rattle.std.proofs.Common.{◌⊎◌, ◌∙◌, inl, inr, ℕ, List, Result, Ok, Err, arith}
-use Rattle.std.specs.Prelude.{OnOk}
+use Rattle.std.{proofs.Common.{◌⊎◌, ◌∙◌, inl, inr, ℕ, List, Result, Ok, Err, arith}, specs.Prelude.OnOk}
 use Rattle.base_file.specs.Base.{Base}
 use Rattle.disk_io.specs.{Disk.DiskState, Disk.Files, Runs.ChangesNothing}
 use Rattle.echo_links.specs.Links.{LinkFile}
-use Rattle.disk_atomic.specs.StagingPaths.{dotted, staging_path}
-use Rattle.disk_atomic.specs.Trying.{WasTried}
+use Rattle.disk_atomic.specs.{StagingPaths.{dotted, staging_path}, Trying.WasTried}
 use Rattle.station.specs.{Beneath.AreSettledByOwn, Place.IsOfPlace, Place.Place}
 use Rattle.cmd_status.specs.Devices.{Output}
 use Rattle.model_steps.specs.{PacketFiles.PacketFile, declared.stamp.Stamp.Stamp}

@@ -9,8 +9,7 @@ use Rattle.cmd_status.specs.Devices.{Output}
 use Rattle.model_steps.specs.PacketFiles.{PacketFile}
 use Rattle.base_store.specs.Store.{HasStoreCause, LooksOn, StoreState, all_scanned}
 use Rattle.base_store.specs.declared.store_error.StoreError.TheVariants as error
-use Rattle.cmd_store.specs.{Scanned.ScansOn, Scanned.files_scanned, Stops.store_answer, declared.command_error.CommandError.CommandError}
-use Rattle.cmd_store.specs.declared.command_error.CommandError.TheVariants.{Met, Store}
+use Rattle.cmd_store.specs.{Scanned.{ScansOn, files_scanned}, Stops.store_answer, declared.command_error.CommandError.{CommandError, TheVariants.{Met, Store}}}
 use Rattle.echo_toss.specs.{Bounds.IsFullWhenRead, PacketsIn.state_in}
 use Rattle.station.specs.Beneath.{HoldsAsBefore}
 use Rattle.station_scan.specs.Sends.{AreSentOn, IsLeftAs, IsOfThese, SendsThese, WasTriedFor, WritesStaging}

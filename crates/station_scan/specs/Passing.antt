@@ -1,7 +1,6 @@
 -- The packets of a scan while their staging files grow, during the pass over the messages.
 use Rattle.std.specs.Prelude.{◌≡◌, ◌⊎◌, ◌==◌, ℕ, Bool, true, not, nat_lt, ◌&&◌, List, ◌++◌, map, filter, drop, All, Contains, None}
-use Rattle.disk_io.specs.Disk.{DiskState, Files, Honestly, IsIn, bytes_in}
-use Rattle.disk_io.specs.Fixed.{AreBytes}
+use Rattle.disk_io.specs.{Disk.{DiskState, Files, Honestly, IsIn, bytes_in}, Fixed.AreBytes}
 use Rattle.disk_atomic.specs.{Changes.CanGrow, StagingPaths.staging_path, declared.outgoing.Outgoing.Outgoing}
 use Rattle.echo_addr.specs.declared.address.Address.{Address}
 use Rattle.echo_packet.specs.{Header.header_bytes, Message.messages_bytes}
@@ -12,9 +11,8 @@ use Rattle.echo_toss.specs.{Exports.OutgoingMessage as Sent, Exports.sent_of, de
 use Rattle.cmd_store.specs.PacketLines.{packet_name}
 use Rattle.base_store.specs.Store.{StoreState}
 use Rattle.station.specs.Beneath.{AreSettledByOwn, IsUsedAt}
-use Rattle.station_scan.specs.{Sending.AreRoutes, declared.counting.LinkPacket.LinkPacket, declared.publish_error.PublishError.PublishError}
+use Rattle.station_scan.specs.{Sending.AreRoutes, declared.{counting.LinkPacket.LinkPacket, publish_error.PublishError.PublishError, sending.Sending.Sending}}
 use Rattle.station_scan.specs.declared.publish_error.PublishError.TheVariants.{Base as OfBase, Packets, Reading, Staging}
-use Rattle.station_scan.specs.declared.sending.Sending.{Sending}
 
 -- The store can be used, and the packets go to planned paths. The stamp is right, and the station owns the paths of the store.
 pub record CanSend (Own : List ℕ → Type 0) (to : Sending) (s : StoreState) : Type 0 where

@@ -11,8 +11,7 @@ use Rattle.echo_packet.specs.Header.{word}
 use Rattle.base_store.specs.{Store.Commits, Store.IsSameStore, Store.StoreState, declared.store_error.StoreError.StoreError}
 use Rattle.base_store.specs.declared.store_error.StoreError.TheVariants as store
 use Rattle.station.specs.Beneath.{HoldsAsBefore}
-use Rattle.station_scan.specs.{Beneath.IsFullOnWay, declared.publish_error.PublishError.PublishError}
-use Rattle.station_scan.specs.declared.publish_error.PublishError.TheVariants.{Base as OfBase, Reading, Staging, Packets}
+use Rattle.station_scan.specs.{Beneath.IsFullOnWay, declared.publish_error.PublishError.{PublishError, TheVariants.{Base as OfBase, Reading, Staging, Packets}}}
 
 -- What the path leads to is on the disk.
 abbrev pub IsOnDisk : DiskState → List ℕ → Type 0

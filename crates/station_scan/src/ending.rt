@@ -2,8 +2,7 @@
 ghost use Rattle.std.specs.Prelude.{◌≡◌, true, false, All, IfErr, IfOk, OnOk};
 ghost use Rattle.disk_io.specs.{Disk.Honestly, Runs.HasCause};
 ghost use Rattle.disk_atomic.specs.{Changes.ChangesOnly, Outgoing.IsAtStaging};
-ghost use Rattle.station_scan.specs.Publishing.{AreStaged, HasStageCause, IsTriedWith, IsWritten, NoneStays, ended_in};
-ghost use Rattle.station_scan.specs.Writing.{CanEnd};
+ghost use Rattle.station_scan.specs.{Publishing.{AreStaged, HasStageCause, IsTriedWith, IsWritten, NoneStays, ended_in}, Writing.CanEnd};
 
 use crate::pieces::Ends;
 use crate::publish_error::PublishError;

@@ -3,8 +3,7 @@ ghost use Rattle.std.specs.Prelude.{◌<◌, ◌++◌, ℕ, List, length, All, I
 ghost use Rattle.disk_io.specs.{Disk.Honestly, Disk.IsIn, Runs.HasCause};
 ghost use Rattle.disk_atomic.specs.{Changes.ChangesOnly, Outgoing.ArePlaced, Outgoing.IsAtStaging, Outgoing.IsFree, Outgoing.IsStagingOne, Publishing.HasPlacingCause};
 ghost use Rattle.echo_toss.specs.Exports.{OutgoingMessage as Sent};
-ghost use Rattle.station_scan.specs.{Passing.AreGrowing, Passing.IsAppending, Passing.header_for, Publishing.IsWritten};
-ghost use Rattle.station_scan.specs.Writing.{IsBegun, IsOpen};
+ghost use Rattle.station_scan.specs.{Passing.{AreGrowing, IsAppending, header_for}, Publishing.IsWritten, Writing.{IsBegun, IsOpen}};
 
 use crate::pieces::{Copies, Headers};
 use crate::sending::Sending;

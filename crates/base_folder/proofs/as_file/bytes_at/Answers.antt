@@ -1,5 +1,4 @@
-use Rattle.std.proofs.Common.{subst, arith}
-use Rattle.std.specs.Result.{IfErr}
+use Rattle.std.{proofs.Common.{subst, arith}, specs.Result.IfErr}
 use Rattle.echo_filed.specs.Stored.{Stored}
 use Rattle.base_file.proofs.SavedMessages.{stored_here}
 use Rattle.base_folder.specs.AsFile.{IsTooLong}

@@ -1,11 +1,8 @@
 use Rattle.std.proofs.Common.{◌≡◌, ◌∙◌, Err, List, ℕ, OnOk, ap, arith, inr, length, refl, subst}
 use Rattle.disk_io.specs.Disk.{Files}
 use Rattle.base_file.specs.Base.{Base}
-use Rattle.base_log.specs.declared.log.CommitRecord.{CommitRecord}
-use Rattle.base_log.specs.declared.log.FolderIdentity.{FolderIdentity}
-use Rattle.base_log.proofs.Keeping.{outside_twice}
-use Rattle.base_folder_store.specs.{Held.HoldsBase, Held.RepresentsBase, Opened.committed_by, Opened.held_by, Opened.path_of}
-use Rattle.base_folder_store.proofs.{Causes.on_ok_none, Seen.many_messages}
+use Rattle.base_log.{specs.declared.log.{CommitRecord.CommitRecord, FolderIdentity.FolderIdentity}, proofs.Keeping.outside_twice}
+use Rattle.base_folder_store.{specs.{Held.{HoldsBase, RepresentsBase}, Opened.{committed_by, held_by, path_of}}, proofs.{Causes.on_ok_none, Seen.many_messages}}
 use Rattle.base_folder.specs.Filled.{FillsAllOrNothing, HasMark, IsKept, IsRecordedIn, IsUncommitted, IsUnfilled, RepresentsMany, RepresentsNoneOr, RepresentsNoneOrWasLeft, drawn_mark, no_messages}
 use Rattle.base_folder.specs.declared.fill_error.FillError.TheVariants as unfilled
 use Rattle.base_folder.proofs.Fillings.{cause_opened, cause_since, fill_since, full_at, never_many, never_used, no_keys, open_is_kept, opened_run, reads_as, reads_folder, uncommitted_opened}

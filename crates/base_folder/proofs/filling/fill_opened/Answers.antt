@@ -1,8 +1,6 @@
-use Rattle.std.proofs.Common.{◌≡◌, ◌+◌, ◌∙◌, ℕ, Err, ap, inr, refl, sym, subst, arith}
-use Rattle.std.specs.Prelude.{IsErrOf}
+use Rattle.std.{proofs.Common.{◌≡◌, ◌+◌, ◌∙◌, ℕ, Err, ap, inr, refl, sym, subst, arith}, specs.Prelude.IsErrOf}
 use Rattle.disk_io.specs.{Disk.Files, Runs.LeavesOnly}
-use Rattle.base_log.specs.Standing.{BaseBytes, Represents}
-use Rattle.base_log.specs.declared.log.CommitRecord.{CommitRecord}
+use Rattle.base_log.specs.{Standing.{BaseBytes, Represents}, declared.log.CommitRecord.CommitRecord}
 use Rattle.base_folder_store.specs.{Calls.CommitsOnly, Held.HoldsBase, Held.RepresentsBase, Opened.committed_by, Opened.held_by, Opened.path_of}
 use Rattle.base_store.specs.declared.store_error.StoreError.TheVariants as store
 use Rattle.base_folder_store.proofs.{Causes.handed_on, Causes.on_ok_none, Runs.run_to_commit, Runs.run_twice}

@@ -1,8 +1,7 @@
 use Rattle.std.proofs.Common.{◌≡◌, ◌∙◌, ap, sym, subst, arith}
 use Rattle.disk_io.specs.Disk.{Files, bytes_in}
 use Rattle.base_log.specs.Names.{log_of}
-use Rattle.base_folder.specs.OpenError.{IsWrong}
-use Rattle.base_folder.proofs.{Lookings.err_is, Openings.stood_before}
+use Rattle.base_folder.{specs.OpenError.IsWrong, proofs.{Lookings.err_is, Openings.stood_before}}
 use Rattle.base_folder.proofs.judging.judged.Goals as goal
 
 pub judge_by-requires-clause-log : goal.judge_by-requires-clause-log

@@ -2,8 +2,7 @@ use Rattle.std.proofs.Common.{◌≡◌, ◌∙◌, List, ℕ, ap, refl, arith}
 use Rattle.disk_io.specs.{Disk.DiskState, Runs.ChangesNothing}
 use Rattle.base_log.specs.{Standing.base_at, declared.log.End.End, declared.log.Log.Log}
 use Rattle.base_store.proofs.Runs.{quiet_disk}
-use Rattle.base_folder_store.specs.{Opened.IsFresh, Opened.held_by, declared.folder.Folder.Folder}
-use Rattle.base_folder_store.proofs.{Bases.opened_bytes, Legible.held_quiet}
+use Rattle.base_folder_store.{specs.{Opened.{IsFresh, held_by}, declared.folder.Folder.Folder}, proofs.{Bases.opened_bytes, Legible.held_quiet}}
 use Rattle.base_folder.specs.Looked.{IsUnseen}
 use Rattle.base_folder.proofs.{Lookings.err_is, Lookings.looked_at, Lookings.unseen_by, Lookings.unseen_message, Openings.base_is, Readings.looked_quiet, Wrongs.sound_by}
 use Rattle.base_folder.proofs.looking.folder_by.Goals as goal

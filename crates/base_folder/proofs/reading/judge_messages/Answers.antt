@@ -1,7 +1,6 @@
 use Rattle.std.proofs.{Common.◌≡◌, Common.◌<◌, Common.◌≤◌, Common.⊎_elim, Common.ℕ, Common.arith, Common.subst, lemmas.Bool.cases_lt}
 use Rattle.disk_io.proofs.Moments.{nothing_twice}
-use Rattle.base_folder_store.specs.{Opened.held_by, Vouched.IsVouched}
-use Rattle.base_folder_store.proofs.Legible.{held_quiet}
+use Rattle.base_folder_store.{specs.{Opened.held_by, Vouched.IsVouched}, proofs.Legible.held_quiet}
 use Rattle.base_folder.proofs.{Lookings.err_is, Readings.looked_quiet, Readings.not_behind, Readings.not_past, Readings.vouched_quiet}
 use Rattle.base_folder.proofs.reading.judge_messages.Goals as goal
 

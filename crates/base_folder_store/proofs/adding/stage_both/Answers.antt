@@ -1,10 +1,8 @@
-use Rattle.std.proofs.Common.{◌≡◌, ◌+◌, ◌<◌, ◌^◌, ℕ, List, length, Result, refl, sym, ap, subst, arith}
-use Rattle.std.specs.Prelude.{IfOk}
+use Rattle.std.{proofs.Common.{◌≡◌, ◌+◌, ◌<◌, ◌^◌, ℕ, List, length, Result, refl, sym, ap, subst, arith}, specs.Prelude.IfOk}
 use Rattle.disk_io.specs.{Disk.DiskState, Disk.Honestly, declared.disk_error.DiskError.DiskError}
 use Rattle.base_log.specs.{AtRest.HoldsNext, AtRest.IsStaged, Names.folder_of, Standing.and_keys, Standing.and_messages, Standing.base_at, declared.log.CommitRecord.CommitRecord, declared.log.End.End}
 use Rattle.base_log.proofs.LeftOutside.{left_twice}
-use Rattle.base_folder_store.specs.Calls.{StagesBoth}
-use Rattle.base_folder_store.proofs.Runs.{run_twice}
+use Rattle.base_folder_store.{specs.Calls.StagesBoth, proofs.Runs.run_twice}
 use Rattle.base_folder_store.proofs.adding.stage_both.Goals as goal
 
 pub stage_bytes-requires-clause-staged : goal.stage_bytes-requires-clause-staged

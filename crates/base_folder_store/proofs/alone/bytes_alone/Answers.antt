@@ -1,6 +1,5 @@
 use Rattle.std.proofs.Common.{◌≡◌, true, false, arith}
-use Rattle.base_file.specs.{Alone.IsStoredAlone, BaseFile.stored_at}
-use Rattle.base_file.proofs.LoneMessages.{saved_alone}
+use Rattle.base_file.{specs.{Alone.IsStoredAlone, BaseFile.stored_at}, proofs.LoneMessages.saved_alone}
 use Rattle.echo_filed.specs.{Filed.Filed, Filed.IsFiled, Stored.is_short_enough, Stored.stored_as, Stored.stored_bytes, declared.stored.Version.TheVariants.Second}
 use Rattle.base_folder_store.proofs.Causes.{ok_both}
 use Rattle.base_folder_store.proofs.alone.bytes_alone.Goals as goal

@@ -1,6 +1,5 @@
 use Rattle.std.proofs.Common.{◌≡◌, ℕ, List, sym, ap, subst, ◌∙◌, arith}
-use Rattle.base_file.specs.{Alone.IsStoredAlone, BaseFile.stored_at}
-use Rattle.base_file.proofs.{LoneMessages.saved_alone, SavedMessages.stored_here}
+use Rattle.base_file.{specs.{Alone.IsStoredAlone, BaseFile.stored_at}, proofs.{LoneMessages.saved_alone, SavedMessages.stored_here}}
 use Rattle.echo_filed.specs.{Stored.is_short_enough, Stored.stored_as, Stored.stored_bytes, declared.stored.Version.TheVariants.Second}
 use Rattle.base_folder_store.proofs.Causes.{ok_both}
 use Rattle.base_folder_store.proofs.alone.bytes_scanned.Goals as goal

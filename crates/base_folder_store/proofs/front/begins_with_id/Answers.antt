@@ -1,5 +1,4 @@
-use Rattle.std.proofs.Common.{◌≡◌, ◌<◌, List, ℕ, length, take, drop, sym, ap, ◌∙◌, arith}
-use Rattle.std.proofs.lemmas.{Bool.eqb-false, List.take_rest, Slice.Eq.bytes_eq-Decides}
+use Rattle.std.proofs.{Common.{◌≡◌, ◌<◌, List, ℕ, length, take, drop, sym, ap, ◌∙◌, arith}, lemmas.{Bool.eqb-false, List.take_rest, Slice.Eq.bytes_eq-Decides}}
 use Rattle.echo_text.specs.{Echo.msgid_of, Lines.lines, Lines.msgid_word, Lines.trimmed, Tail.kept_of}
 use Rattle.base_folder_store.proofs.Plain.{plain_id}
 use Rattle.base_folder_store.proofs.front.begins_with_id.Goals as goal

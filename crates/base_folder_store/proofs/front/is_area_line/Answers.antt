@@ -1,5 +1,4 @@
-use Rattle.std.proofs.Common.{◌≡◌, ◌-◌, length, take, drop, sym, ◌∙◌}
-use Rattle.std.proofs.lemmas.{List.take_rest, Slice.Eq.bytes_eq-Decides}
+use Rattle.std.proofs.{Common.{◌≡◌, ◌-◌, length, take, drop, sym, ◌∙◌}, lemmas.{List.take_rest, Slice.Eq.bytes_eq-Decides}}
 use Rattle.echo_text.specs.Lines.{area_word}
 use Rattle.base_folder_store.proofs.Plain.{plain_tag}
 use Rattle.base_folder_store.proofs.front.is_area_line.Goals as goal

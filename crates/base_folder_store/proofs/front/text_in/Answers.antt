@@ -1,5 +1,4 @@
-use Rattle.std.proofs.Common.{◌≡◌, ◌≤◌, ◌-◌, ◌++◌, length, take, drop, get_or, ◌∙◌, arith}
-use Rattle.std.proofs.lemmas.List.{take_rest}
+use Rattle.std.proofs.{Common.{◌≡◌, ◌≤◌, ◌-◌, ◌++◌, length, take, drop, get_or, ◌∙◌, arith}, lemmas.List.take_rest}
 use Rattle.echo_filed.specs.{Stored.after_length, Stored.last_bytes, declared.stored.Version.TheVariants.Second}
 use Rattle.base_folder_store.proofs.Plain.{last_in, strings_in, whole_in}
 use Rattle.base_folder_store.proofs.front.text_in.Goals as goal

@@ -1,7 +1,6 @@
 use Rattle.std.proofs.Common.{refl}
 use Rattle.base_store.specs.Keys.{digested}
-use Rattle.base_folder_store.specs.Held.{digest_by}
-use Rattle.base_folder_store.proofs.OneMore.{holds_more}
+use Rattle.base_folder_store.{specs.Held.digest_by, proofs.OneMore.holds_more}
 use Rattle.base_folder_store.proofs.laws.one_message_more.Goals as goal
 
 pub returns : goal.returns

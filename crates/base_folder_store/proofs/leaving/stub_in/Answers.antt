@@ -1,9 +1,7 @@
-use Rattle.std.proofs.Common.{◌≡◌, ◌≤◌, not, true, List, ℕ, length, refl, sym, ap, subst, ◌∙◌, arith}
-use Rattle.std.proofs.lemmas.Bool.{true≢false}
+use Rattle.std.proofs.{Common.{◌≡◌, ◌≤◌, not, true, List, ℕ, length, refl, sym, ap, subst, ◌∙◌, arith}, lemmas.Bool.true≢false}
 use Rattle.base_file.specs.{Alone.IsStoredAlone, BaseFile.stored_at}
 use Rattle.echo_filed.specs.{Filed.Filed, Stored.message_in, Stored.stored_bytes, Stubs.is_stub, Stubs.stub_of, declared.stored.Version.TheVariants.Second}
-use Rattle.base_folder_store.specs.Left.{IsLeftOf}
-use Rattle.base_folder_store.proofs.{Causes.answers_error, Causes.answers_whole, Causes.handed_on, Shorter.leaves_less}
+use Rattle.base_folder_store.{specs.Left.IsLeftOf, proofs.{Causes.{answers_error, answers_whole, handed_on}, Shorter.leaves_less}}
 use Rattle.base_folder_store.proofs.leaving.stub_in.Goals as goal
 
 pub returns-in_err-message-clause-left : goal.returns-in_err-message-clause-left

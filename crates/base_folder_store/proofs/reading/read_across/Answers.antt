@@ -1,5 +1,4 @@
-use Rattle.std.proofs.Common.{◌≡◌, ◌≤◌, ◌+◌, ◌-◌, ℕ, List, ◌++◌, take, drop, sym, ap, ◌∙◌, arith}
-use Rattle.std.proofs.lemmas.List.{drop-take, length-take-le, take-take}
+use Rattle.std.proofs.{Common.{◌≡◌, ◌≤◌, ◌+◌, ◌-◌, ℕ, List, ◌++◌, take, drop, sym, ap, ◌∙◌, arith}, lemmas.List.{drop-take, length-take-le, take-take}}
 use Rattle.disk_io.specs.Disk.{bytes_in}
 use Rattle.base_folder_store.proofs.Waits.{part_across}
 use Rattle.base_folder_store.proofs.reading.read_across.Goals as goal

@@ -1,9 +1,7 @@
-use Rattle.std.proofs.Common.{◌≡◌, ◌+◌, ◌/◌, ◌<◌, List, length, arith, [], ◌∷◌, ◌++◌, sym, ap, subst, ◌∙◌}
-use Rattle.std.proofs.lemmas.List.Elements.{Contains-append_left}
+use Rattle.std.proofs.{Common.{◌≡◌, ◌+◌, ◌/◌, ◌<◌, List, length, arith, [], ◌∷◌, ◌++◌, sym, ap, subst, ◌∙◌}, lemmas.List.Elements.Contains-append_left}
 use Rattle.std.specs.Prelude.{Contains}
 use Rattle.base_store.specs.{Expected.are_set, Expected.place_in, declared.expected.NumberedDigest.NumberedDigest}
-use Rattle.base_store.proofs.Found.{AreOnly, HasAllSet, added_one, only_more, passed_one}
-use Rattle.base_store.proofs.expected.find_all.Goals.{then-are_set+in_ok-push, else-are_set}
+use Rattle.base_store.proofs.{Found.{AreOnly, HasAllSet, added_one, only_more, passed_one}, expected.find_all.Goals.{then-are_set+in_ok-push, else-are_set}}
 use Rattle.base_store.proofs.expected.find_all.Goals as goal
 
 pub returns-in_err-push-clause-kept : goal.returns-in_err-push-clause-kept

@@ -1,6 +1,5 @@
 use Rattle.std.specs.Prelude.{Contains}
-use Rattle.base_store.specs.declared.expected.NumberedDigest.{NumberedDigest}
-use Rattle.base_store.proofs.Found.{AreOnly, HasAllSet}
+use Rattle.base_store.{specs.declared.expected.NumberedDigest.NumberedDigest, proofs.Found.{AreOnly, HasAllSet}}
 use Rattle.base_store.proofs.expected.find_all.Given as goal
 
 abbrev pub invariant-entries : goal.invariant-entries

@@ -1,6 +1,5 @@
 use Rattle.std.proofs.Common.{◌+◌, arith, Global, List, subst, sym, take, take_all, Vec, ℕ}
-use Rattle.cmd_check.proofs.AreaTags.{HaveTags, tag_missed, tags_more, tags_of_file}
-use Rattle.cmd_check.proofs.area_tags.note_areas.Goals.{in-Some+in_ok-note_tag, in_default}
+use Rattle.cmd_check.proofs.{AreaTags.{HaveTags, tag_missed, tags_more, tags_of_file}, area_tags.note_areas.Goals.{in-Some+in_ok-note_tag, in_default}}
 use Rattle.cmd_check.proofs.area_tags.note_areas.Goals as goal
 
 pub areas-preserved : goal.areas-preserved

@@ -1,6 +1,5 @@
 use Rattle.std.proofs.Common.{◌∙◌, ap, Global, List, Vec, ℕ}
-use Rattle.cmd_check.specs.AreaTags.{has_tag}
-use Rattle.cmd_check.proofs.AreaTags.{tag_inserted}
+use Rattle.cmd_check.{specs.AreaTags.has_tag, proofs.AreaTags.tag_inserted}
 use Rattle.cmd_check.proofs.area_tags.note_tag.Goals as goal
 
 pub returns : goal.returns

@@ -1,7 +1,5 @@
-use Rattle.std.proofs.Common.{arith, Global, List, Vec, ℕ}
-use Rattle.std.specs.Option.{option_copied}
-use Rattle.cmd_check.specs.CheckingAll.{IsAreaChecked}
-use Rattle.cmd_check.proofs.AllAreas.{none_checked, one_more}
+use Rattle.std.{proofs.Common.{arith, Global, List, Vec, ℕ}, specs.Option.option_copied}
+use Rattle.cmd_check.{specs.CheckingAll.IsAreaChecked, proofs.AllAreas.{none_checked, one_more}}
 use Rattle.cmd_check.proofs.checking_all.push_areas.Goals as goal
 
 pub tags-init : goal.tags-init

@@ -1,6 +1,5 @@
 use Rattle.std.proofs.{Common.List, Common.inl, Common.ℕ, lemmas.Result.err_from_is_err_and}
-use Rattle.cmd_check.specs.{JudgedAreas.is_alone, PicturingParts.IsLeftDrawn}
-use Rattle.cmd_check.proofs.FilledParts.{pushed_alone}
+use Rattle.cmd_check.{specs.{JudgedAreas.is_alone, PicturingParts.IsLeftDrawn}, proofs.FilledParts.pushed_alone}
 use Rattle.cmd_check.proofs.picturing_parts.picture_left.Goals as goal
 
 pub returns-in_err-print_rest : goal.returns-in_err-print_rest

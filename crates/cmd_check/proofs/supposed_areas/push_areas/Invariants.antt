@@ -1,6 +1,5 @@
 -- The lines of the areas so far are added.
-use Rattle.std.proofs.Common.{◌≤◌, List, take}
-use Rattle.std.specs.{List.AllZip, Option.option_copied}
+use Rattle.std.{proofs.Common.{◌≤◌, List, take}, specs.{List.AllZip, Option.option_copied}}
 use Rattle.echo_links.specs.Links.{LinkFile}
 use Rattle.echo_net.specs.Listings.{IsListing}
 use Rattle.cmd_print.specs.Pushed.{Pushes}

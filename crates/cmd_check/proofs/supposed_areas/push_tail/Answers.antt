@@ -1,5 +1,4 @@
-use Rattle.cmd_check.specs.JudgedAreas.{judged_net}
-use Rattle.cmd_check.proofs.Judgements.{tail_pushed}
+use Rattle.cmd_check.{specs.JudgedAreas.judged_net, proofs.Judgements.tail_pushed}
 use Rattle.cmd_check.proofs.supposed_areas.push_tail.Goals as goal
 
 pub returns : goal.returns

@@ -1,5 +1,4 @@
-use Rattle.std.proofs.{Common.inr, Common.refl, lemmas.Result.err_from_is_err_and}
-use Rattle.std.specs.Option.{option_copied}
+use Rattle.std.{proofs.{Common.{inr, refl}, lemmas.Result.err_from_is_err_and}, specs.Option.option_copied}
 use Rattle.echo_net.specs.Listings.{IsListing}
 use Rattle.cmd_status.specs.Devices.{output_of}
 use Rattle.cmd_check.proofs.Judgements.{supposed_refused, was_judged}

@@ -1,7 +1,5 @@
-use Rattle.std.proofs.{Common.inl, Common.refl, lemmas.Result.err_from_is_err_and}
-use Rattle.std.specs.Option.{option_copied}
-use Rattle.cmd_check.specs.{CheckingAll.verdicts_status, JudgedAreas.JudgedNet, JudgedAreas.judged_net}
-use Rattle.cmd_check.proofs.Judgements.{net_shown}
+use Rattle.std.{proofs.{Common.{inl, refl}, lemmas.Result.err_from_is_err_and}, specs.Option.option_copied}
+use Rattle.cmd_check.{specs.{CheckingAll.verdicts_status, JudgedAreas.{JudgedNet, judged_net}}, proofs.Judgements.net_shown}
 use Rattle.cmd_check.proofs.supposing.print_net.Goals as goal
 
 pub returns-in_err-print_rest : goal.returns-in_err-print_rest

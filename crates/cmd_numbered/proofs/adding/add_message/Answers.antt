@@ -1,8 +1,6 @@
-use Rattle.std.proofs.Common.{◌∙◌, ℕ, List, arith, length-append, subst}
-use Rattle.std.proofs.KnownBytes.{Appends-trans}
+use Rattle.std.proofs.{Common.{◌∙◌, ℕ, List, arith, length-append, subst}, KnownBytes.Appends-trans}
 use Rattle.echo_jam.specs.Fields.{body_of}
-use Rattle.cmd_status.specs.Lines.{WritesFront}
-use Rattle.cmd_status.proofs.Lines.{front_sent, none_begun}
+use Rattle.cmd_status.{specs.Lines.WritesFront, proofs.Lines.{front_sent, none_begun}}
 use Rattle.cmd_numbered.proofs.Addings.{at_error, begun_since}
 use Rattle.cmd_numbered.proofs.adding.add_message.Goals as goal
 

@@ -1,8 +1,6 @@
-use Rattle.std.proofs.Common.{◌≤◌, ◌+◌, ◌∙◌, [], ap, arith, length, option_copied, refl, sym}
-use Rattle.std.proofs.{lemmas.List.append-nil, KnownBytes.Appends-nil}
+use Rattle.std.proofs.{Common.{◌≤◌, ◌+◌, ◌∙◌, [], ap, arith, length, option_copied, refl, sym}, lemmas.List.append-nil, KnownBytes.Appends-nil}
 use Rattle.base_folder.proofs.{Fetchings.unread_since, Lookings.err_is, Readings.looks_on, Readings.read_more}
-use Rattle.cmd_numbered.specs.JamAdded.{Added, nothing_added}
-use Rattle.cmd_numbered.proofs.Addings.{at_error, front_of_all, one_added, unadded_here}
+use Rattle.cmd_numbered.{specs.JamAdded.{Added, nothing_added}, proofs.Addings.{at_error, front_of_all, one_added, unadded_here}}
 use Rattle.cmd_numbered.proofs.adding.added_of.Goals as goal
 
 pub messages-init : goal.messages-init

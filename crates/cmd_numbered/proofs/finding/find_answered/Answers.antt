@@ -1,6 +1,5 @@
 use Rattle.std.proofs.Common.{refl}
-use Rattle.cmd_numbered.specs.Finding.{IsAnswered}
-use Rattle.cmd_numbered.proofs.Readings.{of_file}
+use Rattle.cmd_numbered.{specs.Finding.IsAnswered, proofs.Readings.of_file}
 use Rattle.cmd_numbered.proofs.finding.find_answered.Goals as goal
 
 pub returns : goal.returns

@@ -1,5 +1,4 @@
-use Rattle.std.proofs.Common.{◌≡◌, ◌≤◌, ℕ}
-use Rattle.std.specs.Option.{option_map}
+use Rattle.std.{proofs.Common.{◌≡◌, ◌≤◌, ℕ}, specs.Option.option_map}
 use Rattle.base_file.specs.Base.{Base}
 use Rattle.base_folder.specs.Source.{AreLegibleTo}
 use Rattle.cmd_numbered.specs.Finding.{answered_as, last_with}

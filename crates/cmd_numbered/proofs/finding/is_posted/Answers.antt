@@ -1,6 +1,5 @@
 use Rattle.std.proofs.Common.{refl}
-use Rattle.cmd_numbered.specs.Finding.{IsPostedAs}
-use Rattle.cmd_numbered.proofs.Readings.{of_file}
+use Rattle.cmd_numbered.{specs.Finding.IsPostedAs, proofs.Readings.of_file}
 use Rattle.cmd_numbered.proofs.finding.is_posted.Goals as goal
 
 pub returns : goal.returns

@@ -1,5 +1,4 @@
-use Rattle.std.proofs.Common.{◌∙◌, Option, add-one, arith, sym}
-use Rattle.std.proofs.lemmas.Result.{err_from_is_err_and}
+use Rattle.std.proofs.{Common.{◌∙◌, Option, add-one, arith, sym}, lemmas.Result.err_from_is_err_and}
 use Rattle.base_folder.proofs.{Fetchings.unread_since, Readings.read_more}
 use Rattle.echo_filed.specs.Filed.{Filed}
 use Rattle.cmd_numbered.specs.Finding.{is_found_as, last_at, last_with}

@@ -1,5 +1,4 @@
-use Rattle.std.proofs.Common.{◌-◌, arith, drop, length, length-drop, sym}
-use Rattle.std.proofs.lemmas.List.{drop_all, take_all}
+use Rattle.std.proofs.{Common.{◌-◌, arith, drop, length, length-drop, sym}, lemmas.List.{drop_all, take_all}}
 use Rattle.cmd_numbered.proofs.numbering.behind_numbers.Goals as goal
 
 pub returns-then-bytes-lt190 : goal.returns-then-bytes-lt190

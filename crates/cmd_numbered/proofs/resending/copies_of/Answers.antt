@@ -1,5 +1,4 @@
-use Rattle.std.proofs.Common.{◌≡◌, ◌∙◌, ◌<◌, arith, length, option_copied}
-use Rattle.std.specs.Prelude.{min}
+use Rattle.std.{proofs.Common.{◌≡◌, ◌∙◌, ◌<◌, arith, length, option_copied}, specs.Prelude.min}
 use Rattle.base_folder.proofs.{Fetchings.unread_since, Lookings.err_is}
 use Rattle.echo_toss.proofs.Resendings.{copies_of, next_resent}
 use Rattle.cmd_numbered.proofs.Resendings.{added_at, read_from}

@@ -1,5 +1,4 @@
-use Rattle.std.proofs.{Common.ap, Common.codes, Common.length, Common.sym, Common.◌++◌, Common.◌∙◌, lemmas.Bool.eqb-true, lemmas.List.append-nil}
-use Rattle.std.specs.List.{flat_map}
+use Rattle.std.{proofs.{Common.{ap, codes, length, sym, ◌++◌, ◌∙◌}, lemmas.{Bool.eqb-true, List.append-nil}}, specs.List.flat_map}
 use Rattle.echo_text.proofs.TextLines.{no_lines}
 use Rattle.echo_charset.specs.Escaped.{escaped_line}
 use Rattle.cmd_print.proofs.base_text.push_lines.Goals as goal

@@ -1,5 +1,4 @@
-use Rattle.std.proofs.Common.{◌≡◌, ◌++◌, codes, length}
-use Rattle.std.specs.List.{flat_map}
+use Rattle.std.{proofs.Common.{◌≡◌, ◌++◌, codes, length}, specs.List.flat_map}
 use Rattle.echo_text.specs.Lines.{lines}
 use Rattle.echo_charset.specs.Escaped.{escaped_line}
 use Rattle.cmd_print.proofs.base_text.push_lines.Given as goal

@@ -1,5 +1,4 @@
-use Rattle.std.proofs.Common.{◌≡◌, ◌++◌, take}
-use Rattle.std.specs.List.{flat_map}
+use Rattle.std.{proofs.Common.{◌≡◌, ◌++◌, take}, specs.List.flat_map}
 use Rattle.cmd_print.specs.Pictured.{later_step}
 use Rattle.cmd_print.proofs.picture_text.push_later.Given as goal
 

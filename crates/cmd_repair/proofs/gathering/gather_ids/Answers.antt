@@ -1,8 +1,7 @@
 use Rattle.std.proofs.Common.{List, ◌∙◌, ◌<◌, ◌≤◌, arith, length, option_copied, subst, take_all}
 use Rattle.base_folder.proofs.{Fetchings.unread_since, Lookings.err_is, Readings.read_more}
 use Rattle.echo_filed.specs.Filed.{Filed}
-use Rattle.cmd_repair.specs.IdsListed.{Gathers, area_ids, area_messages}
-use Rattle.cmd_repair.proofs.Gatherings.{gathered_next}
+use Rattle.cmd_repair.{specs.IdsListed.{Gathers, area_ids, area_messages}, proofs.Gatherings.gathered_next}
 use Rattle.cmd_repair.proofs.gathering.gather_ids.Goals as goal
 
 pub fetch_message-requires : goal.fetch_message-requires

@@ -1,5 +1,4 @@
-use Rattle.std.proofs.Common.{◌∙◌, ◌∷◌, [], Bor, List, ap, map, ℕ}
-use Rattle.std.proofs.lemmas.List.{map-append}
+use Rattle.std.proofs.{Common.{◌∙◌, ◌∷◌, [], Bor, List, ap, map, ℕ}, lemmas.List.map-append}
 use Rattle.cmd_repair.proofs.Cutting.{cut_all, cut_more}
 use Rattle.cmd_repair.proofs.gathering.ids_of.Goals as goal
 

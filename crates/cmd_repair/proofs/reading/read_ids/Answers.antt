@@ -1,5 +1,4 @@
-use Rattle.std.proofs.Common.{List, ◌∙◌, ◌++◌, ◌≡◌, ap, arith, inr, length, map, refl, sym, ℕ}
-use Rattle.std.proofs.lemmas.Bool.{eqb-true}
+use Rattle.std.proofs.{Common.{List, ◌∙◌, ◌++◌, ◌≡◌, ap, arith, inr, length, map, refl, sym, ℕ}, lemmas.Bool.eqb-true}
 use Rattle.std.specs.{List.list_any, Prelude.bytes_eq}
 use Rattle.echo_links.specs.LinkLines.{file_lines}
 use Rattle.cmd_repair.specs.{IdList.missing_line, IdList.stage_after, Words.area_words}

@@ -1,5 +1,4 @@
-use Rattle.std.proofs.Common.{List, ◌≡◌, ◌∙◌, ◌<◌, ◌≤◌, ◌++◌, arith, drop, length, option_copied, refl, subst, sym, take_all, ⊎_elim}
-use Rattle.std.proofs.lemmas.Bool.{cases_lt}
+use Rattle.std.proofs.{Common.{List, ◌≡◌, ◌∙◌, ◌<◌, ◌≤◌, ◌++◌, arith, drop, length, option_copied, refl, subst, sym, take_all, ⊎_elim}, lemmas.Bool.cases_lt}
 use Rattle.base_folder.proofs.{Lookings.err_is, Readings.not_past}
 use Rattle.echo_filed.specs.Filed.{Filed}
 use Rattle.echo_packet.specs.Message.{messages_bytes}

@@ -1,7 +1,6 @@
 use Rattle.std.proofs.Common.{Some, refl}
 use Rattle.cmd_status.specs.{Devices.output_of, Inputs.IsBaseFault}
-use Rattle.cmd_show.specs.AreasListed.{AreAreasListed, AreListed}
-use Rattle.cmd_show.proofs.Fetchings.{at_once}
+use Rattle.cmd_show.{specs.AreasListed.{AreAreasListed, AreListed}, proofs.Fetchings.at_once}
 use Rattle.cmd_show.proofs.area_counts.list_areas.Goals as goal
 
 pub returns : goal.returns

@@ -1,7 +1,6 @@
 use Rattle.std.proofs.Common.{Some, refl}
 use Rattle.cmd_status.specs.{Devices.output_of, Inputs.IsBaseFault}
-use Rattle.cmd_show.specs.Exporting.{IsBaseExported, IsExported}
-use Rattle.cmd_show.proofs.Fetchings.{in_pieces}
+use Rattle.cmd_show.{specs.Exporting.{IsBaseExported, IsExported}, proofs.Fetchings.in_pieces}
 use Rattle.cmd_show.proofs.exporting.export.Goals as goal
 
 pub returns : goal.returns

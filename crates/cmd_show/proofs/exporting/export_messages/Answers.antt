@@ -1,6 +1,5 @@
 use Rattle.std.proofs.{Common.option_copied, Common.arith, lemmas.Result.err_from_is_err_and}
-use Rattle.cmd_status.specs.Devices.{output_of}
-use Rattle.cmd_status.proofs.Lines.{none_begun}
+use Rattle.cmd_status.{specs.Devices.output_of, proofs.Lines.none_begun}
 use Rattle.cmd_show.proofs.Exportings.{export_begun, exported, unexported}
 use Rattle.cmd_show.proofs.exporting.export_messages.Goals as goal
 

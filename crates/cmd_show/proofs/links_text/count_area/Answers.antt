@@ -7,5 +7,4 @@ returns-in-Some-links c =
     area_counted c.args.file.now c.args.k c.in-Some.tag.now c.in-Some.ensures (Some c.in-Some-links.links.now) c.in-Some-links.links.now _ c.in-Some-links.ensures refl refl
 
 pub returns-in-None : goal.returns-in-None
-returns-in-None c =
-    area_counted c.args.file.now c.args.k c.in-Some.tag.now c.in-Some.ensures None [] 0 c.in-None.ensures refl refl
+returns-in-None c = area_counted c.args.file.now c.args.k c.in-Some.tag.now c.in-Some.ensures None [] 0 c.in-None.ensures refl refl

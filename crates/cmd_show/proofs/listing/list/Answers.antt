@@ -1,7 +1,6 @@
 use Rattle.cmd_status.specs.{Devices.output_of, Inputs.IsBaseFault}
 use Rattle.std.proofs.Common.{Some, refl}
-use Rattle.cmd_show.specs.Listing.{IsBaseListed, IsListed}
-use Rattle.cmd_show.proofs.Fetchings.{in_pieces}
+use Rattle.cmd_show.{specs.Listing.{IsBaseListed, IsListed}, proofs.Fetchings.in_pieces}
 use Rattle.cmd_show.proofs.listing.list.Goals as goal
 
 pub returns : goal.returns

@@ -1,7 +1,6 @@
 use Rattle.std.proofs.{Common.◌∙◌, Common.◌++◌, Common.ℕ, Common.ap, Common.option_copied, Common.arith, lemmas.Result.err_from_is_err_and}
 use Rattle.cmd_print.specs.BaseListed.{total_text}
-use Rattle.cmd_status.specs.Devices.{output_of}
-use Rattle.cmd_status.proofs.Lines.{none_begun}
+use Rattle.cmd_status.{specs.Devices.output_of, proofs.Lines.none_begun}
 use Rattle.cmd_show.proofs.Listings.{base_listed, base_unlisted, listing_begun}
 use Rattle.cmd_show.proofs.listing.list_messages.Goals as goal
 

@@ -1,6 +1,5 @@
 use Rattle.std.proofs.Common.{◌≡◌, ◌++◌, ℕ, ap, arith, length, refl, subst}
-use Rattle.cmd_status.specs.Lines.{PassesOn}
-use Rattle.cmd_status.proofs.Lines.{none_added}
+use Rattle.cmd_status.{specs.Lines.PassesOn, proofs.Lines.none_added}
 use Rattle.cmd_print.specs.Listed.{listed_entries}
 use Rattle.cmd_show.proofs.Entries.{entry_begun, printed_more, rest_begun, total_added}
 use Rattle.cmd_show.proofs.nodelists.print_entries.Goals as goal

@@ -1,5 +1,4 @@
-use Rattle.std.proofs.{Common.◌∙◌, Common.arith, Common.sym, lemmas.Bool.not-false, lemmas.Bool.not-true}
-use Rattle.std.specs.{List.list_any, Ordering.is_eq}
+use Rattle.std.{proofs.{Common.{◌∙◌, arith, sym}, lemmas.Bool.{not-false, not-true}}, specs.{List.list_any, Ordering.is_eq}}
 use Rattle.echo_addr.specs.Entries.{tokens}
 use Rattle.echo_links.specs.Found.{address_order}
 use Rattle.cmd_show.proofs.WrongWords.{link_bad, link_repeated, link_seen, links_right, links_unseen}
@@ -30,5 +29,4 @@ links-preserved c =
     c.links.invariant c.in-Some.ensures.token a c.insert.new.self.keys c.in-Some-address.ensures new c.in_ok-insert.ensures.updates.0
 
 pub returns : goal.returns
-returns c =
-    (links_right c.args.number (tokens c.args.rest.now) (tokens c.links.left.now) c.links.sorted.keys c.links.invariant c.in_default.ensures.token, tt)
+returns c = (links_right c.args.number (tokens c.args.rest.now) (tokens c.links.left.now) c.links.sorted.keys c.links.invariant c.in_default.ensures.token, tt)

@@ -1,7 +1,6 @@
 use Rattle.std.proofs.{Common.List, Common.take, Common.◌+◌, Common.sym, Common.subst, lemmas.Result.err_from_is_err_and}
 use Rattle.echo_links.specs.Links.{LinkFile}
-use Rattle.cmd_status.specs.Inputs.{AreLinkFiles}
-use Rattle.cmd_status.proofs.Giving.{link_refused, read_more}
+use Rattle.cmd_status.{specs.Inputs.AreLinkFiles, proofs.Giving.{link_refused, read_more}}
 use Rattle.cmd_status.proofs.inputs.link_files.Goals as goal
 
 pub returns-in_err-file-clause-err : goal.returns-in_err-file-clause-err

@@ -1,5 +1,4 @@
-use Rattle.std.proofs.Common.{refl, sym, ap, ◌∙◌}
-use Rattle.std.specs.Option.{is_some}
+use Rattle.std.{proofs.Common.{refl, sym, ap, ◌∙◌}, specs.Option.is_some}
 use Rattle.echo_addr.specs.Address.{refusal}
 use Rattle.cmd_status.proofs.options.parse_address.Goals as goal
 

@@ -1,5 +1,4 @@
-use Rattle.std.proofs.Common.{◌≡◌, ◌<◌, ◌∙◌, ℕ, ap, sym, arith, get_or, subst}
-use Rattle.std.specs.Char.{digit_value}
+use Rattle.std.{proofs.Common.{◌≡◌, ◌<◌, ◌∙◌, ℕ, ap, sym, arith, get_or, subst}, specs.Char.digit_value}
 use Rattle.echo_text.proofs.{Serials.valued_all, Serials.valued_more, Serials.valued_room, Ids.hex_from_digits as all_hex}
 use Rattle.cmd_status.proofs.options.serial_in.Goals as goal
 

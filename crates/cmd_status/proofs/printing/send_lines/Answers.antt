@@ -1,6 +1,5 @@
 use Rattle.std.proofs.Common.{ℕ, List, subst}
-use Rattle.cmd_status.specs.Lines.{WritesFront}
-use Rattle.cmd_status.proofs.Lines.{front_sent}
+use Rattle.cmd_status.{specs.Lines.WritesFront, proofs.Lines.front_sent}
 use Rattle.cmd_status.proofs.printing.send_lines.Goals as goal
 
 pub returns-in-Err-clause-begun : goal.returns-in-Err-clause-begun

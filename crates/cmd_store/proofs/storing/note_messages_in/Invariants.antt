@@ -1,6 +1,5 @@
 use Rattle.std.proofs.Common.{◌-◌}
-use Rattle.cmd_store.specs.Lines.{HasTallyRoom}
-use Rattle.cmd_store.proofs.NotedIn.{HasNotedIn}
+use Rattle.cmd_store.{specs.Lines.HasTallyRoom, proofs.NotedIn.HasNotedIn}
 use Rattle.cmd_store.proofs.storing.note_messages_in.Given as goal
 
 abbrev pub invariant-messages : goal.invariant-messages

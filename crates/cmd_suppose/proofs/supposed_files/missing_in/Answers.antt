@@ -1,6 +1,5 @@
 use Rattle.std.proofs.Common.{Bool, subst, sym}
-use Rattle.cmd_suppose.specs.SupposedFiles.{AreMissing}
-use Rattle.cmd_suppose.proofs.SupposedTexts.{were_missing}
+use Rattle.cmd_suppose.{specs.SupposedFiles.AreMissing, proofs.SupposedTexts.were_missing}
 use Rattle.cmd_suppose.proofs.supposed_files.missing_in.Goals as goal
 
 pub returns-in_ok-all : goal.returns-in_ok-all

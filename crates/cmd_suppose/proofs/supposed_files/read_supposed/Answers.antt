@@ -1,6 +1,5 @@
 use Rattle.std.proofs.{Common.◌∙◌, Common.List, Common.subst, Common.ℕ, lemmas.Result.err_from_is_err_and}
-use Rattle.cmd_suppose.specs.SupposedFiles.{ReadsMore}
-use Rattle.cmd_suppose.proofs.SupposedTexts.{behind_none, texts_refused}
+use Rattle.cmd_suppose.{specs.SupposedFiles.ReadsMore, proofs.SupposedTexts.{behind_none, texts_refused}}
 use Rattle.cmd_suppose.proofs.supposed_files.read_supposed.Goals as goal
 
 pub push_files-requires : goal.push_files-requires

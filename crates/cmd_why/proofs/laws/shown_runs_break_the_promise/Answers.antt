@@ -1,5 +1,4 @@
-use Rattle.cmd_why.specs.Shown.{posting_and_moves, shown_run}
-use Rattle.cmd_why.proofs.Harms.{reported-harm}
+use Rattle.cmd_why.{specs.Shown.{posting_and_moves, shown_run}, proofs.Harms.reported-harm}
 use Rattle.cmd_why.proofs.laws.shown_runs_break_the_promise.Goals as goal
 
 pub returns : goal.returns

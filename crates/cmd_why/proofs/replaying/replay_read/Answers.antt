@@ -1,8 +1,7 @@
 use Rattle.std.proofs.Common.{None, arith, refl}
 use Rattle.cmd_status.specs.Devices.{output_of}
 use Rattle.cmd_check.proofs.Printing.{printed_as}
-use Rattle.cmd_why.proofs.Replays.{was_replayed}
-use Rattle.cmd_why.specs.Replaying.{IsFirstFaultReplayed}
+use Rattle.cmd_why.{proofs.Replays.was_replayed, specs.Replaying.IsFirstFaultReplayed}
 use Rattle.cmd_why.proofs.replaying.replay_read.Goals as goal
 
 pub returns : goal.returns

@@ -1,5 +1,4 @@
-use Rattle.std.proofs.Common.{◌≡◌, ◌∙◌, ◌<◌, ◌++◌, List, ℕ, ap, arith, get_or, length, subst, sym}
-use Rattle.std.proofs.lemmas.List.{get_or_default}
+use Rattle.std.proofs.{Common.{◌≡◌, ◌∙◌, ◌<◌, ◌++◌, List, ℕ, ap, arith, get_or, length, subst, sym}, lemmas.List.get_or_default}
 use Rattle.disk_io.specs.Fixed.{AreBytes}
 use Rattle.disk_atomic.specs.Outgoing.{AreApart, IsStagingOne, SendsBytes, staged_in}
 use Rattle.disk_atomic.proofs.{Behind.all_grow, Behind.one_longer, Behind.still_same, Changes.then_only, Each.behind, Packets.apart_back, Packets.nobody, Packets.staging_one}

@@ -1,5 +1,4 @@
-use Rattle.std.proofs.Common.{◌≡◌, ◌<◌, ◌≤◌, ℕ, get_or, length}
-use Rattle.std.specs.{Prelude.All, List.AllWithin}
+use Rattle.std.{proofs.Common.{◌≡◌, ◌<◌, ◌≤◌, ℕ, get_or, length}, specs.{Prelude.All, List.AllWithin}}
 use Rattle.disk_io.specs.{Disk.Honestly, Runs.KeepsNamed}
 use Rattle.disk_atomic.specs.{Changes.ChangesOnly, Outgoing.CanGrowStaging, Outgoing.IsLonger, Outgoing.IsStagingOne, Outgoing.SendsBytes, declared.outgoing.Outgoing.Outgoing}
 use Rattle.disk_atomic.proofs.appending.append_each.Given as goal

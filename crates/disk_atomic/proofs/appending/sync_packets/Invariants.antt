@@ -1,5 +1,4 @@
-use Rattle.std.proofs.Common.{◌≤◌}
-use Rattle.std.specs.List.{AllWithin}
+use Rattle.std.{proofs.Common.◌≤◌, specs.List.AllWithin}
 use Rattle.disk_io.specs.Runs.{ChangesNothing}
 use Rattle.disk_atomic.specs.Outgoing.{IsStagingFlushed}
 use Rattle.disk_atomic.proofs.appending.sync_packets.Given as goal

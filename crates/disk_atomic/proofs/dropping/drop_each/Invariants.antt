@@ -1,5 +1,4 @@
-use Rattle.std.proofs.Common.{◌≤◌, length}
-use Rattle.std.specs.List.{AllWithin}
+use Rattle.std.{proofs.Common.{◌≤◌, length}, specs.List.AllWithin}
 use Rattle.disk_atomic.specs.{Changes.ChangesOnly, Outgoing.IsStagingOne, Outgoing.IsStagingGone, Outgoing.IsStagingNamed}
 use Rattle.disk_io.specs.Disk.{Honestly}
 use Rattle.disk_atomic.proofs.dropping.drop_each.Given as goal

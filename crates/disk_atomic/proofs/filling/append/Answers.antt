@@ -1,7 +1,6 @@
 use Rattle.std.proofs.Common.{◌≡◌, ◌+◌, List, ℕ, length, refl, arith}
 use Rattle.disk_io.specs.{Disk.bytes_in, Steps.TornWrite}
-use Rattle.disk_atomic.specs.Changes.{ChangesOnly}
-use Rattle.disk_atomic.proofs.{Changes.only_bytes, Growing.grown, Growing.written_behind, filling.append.Goals.After-write_at}
+use Rattle.disk_atomic.{specs.Changes.ChangesOnly, proofs.{Changes.only_bytes, Growing.{grown, written_behind}, filling.append.Goals.After-write_at}}
 use Rattle.disk_atomic.proofs.filling.append.Given as given
 use Rattle.disk_atomic.proofs.filling.append.Goals as goal
 

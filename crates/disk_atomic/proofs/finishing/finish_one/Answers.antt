@@ -1,8 +1,6 @@
 use Rattle.std.proofs.{Common.inl, Common.true, Common.arith, Common.refl, lemmas.Result.IfOk-weaker, lemmas.Result.on_ok_weaker}
-use Rattle.disk_io.specs.{Steps.TornRemoval, Runs.LeavesOnly, Runs.OneStepOn}
-use Rattle.disk_io.proofs.Moments.{weaker_run}
-use Rattle.disk_atomic.specs.{Changes.ChangesOnly, Finishing.Finishes}
-use Rattle.disk_atomic.proofs.Ended.{AtLeft, ends_same, named_finishes, quiet_then, removed_finishes}
+use Rattle.disk_io.{specs.{Steps.TornRemoval, Runs.{LeavesOnly, OneStepOn}}, proofs.Moments.weaker_run}
+use Rattle.disk_atomic.{specs.{Changes.ChangesOnly, Finishing.Finishes}, proofs.Ended.{AtLeft, ends_same, named_finishes, quiet_then, removed_finishes}}
 use Rattle.disk_atomic.proofs.{Changes.only_nothing, Changes.only_path, Changes.then_only, Whole.none_is_not_there, finishing.finish_one.Goals.After-remove}
 use Rattle.disk_atomic.proofs.finishing.finish_one.Given as given
 use Rattle.disk_atomic.proofs.finishing.finish_one.Goals as goal

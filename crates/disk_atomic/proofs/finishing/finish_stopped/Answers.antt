@@ -1,7 +1,5 @@
-use Rattle.std.proofs.Common.{◌<◌, ◌+◌, ◌∙◌, get_or, ⊎_elim, length, arith}
-use Rattle.std.proofs.lemmas.{Bool.and_parts, List.Elements.AllWithin-none}
-use Rattle.disk_io.specs.{Disk.Honestly, Runs.LeavesOnly, Runs.OneStepOn}
-use Rattle.disk_io.proofs.Moments.{then_nothing}
+use Rattle.std.proofs.{Common.{◌<◌, ◌+◌, ◌∙◌, get_or, ⊎_elim, length, arith}, lemmas.{Bool.and_parts, List.Elements.AllWithin-none}}
+use Rattle.disk_io.{specs.{Disk.Honestly, Runs.{LeavesOnly, OneStepOn}}, proofs.Moments.then_nothing}
 use Rattle.disk_atomic.specs.Finishing.{AreAway, AreNamed, FinishesEach, IsOfLeft, IsOver, KeepsFile}
 use Rattle.disk_atomic.proofs.Ended.{away_back, finished_more, FinishesSome, IsSameLeft, keeps_now, none_finished, nothing_left, one_of_left, over_now, some_finishes, still_keeps, still_named, still_over, still_same}
 use Rattle.disk_atomic.proofs.{Changes.only_nothing, Changes.then_only, Changes.weaker_steps, Each.ahead, Each.behind, Each.here, Whole.one_false}

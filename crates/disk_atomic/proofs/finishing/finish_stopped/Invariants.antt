@@ -1,9 +1,6 @@
-use Rattle.std.proofs.Common.{◌≡◌, ◌≤◌, true, false, length}
-use Rattle.std.specs.{Prelude.All, List.AllWithin}
+use Rattle.std.{proofs.Common.{◌≡◌, ◌≤◌, true, false, length}, specs.{Prelude.All, List.AllWithin}}
 use Rattle.disk_io.specs.{Disk.Honestly, Runs.LeavesOnly, Runs.OneStepOn}
-use Rattle.disk_atomic.specs.Finishing.{AreNamed, IsFreeOf, IsOfLeft, IsOver, KeepsFile}
-use Rattle.disk_atomic.specs.Changes.{ChangesOnly}
-use Rattle.disk_atomic.proofs.Ended.{FinishesSome, IsSameLeft}
+use Rattle.disk_atomic.{specs.{Finishing.{AreNamed, IsFreeOf, IsOfLeft, IsOver, KeepsFile}, Changes.ChangesOnly}, proofs.Ended.{FinishesSome, IsSameLeft}}
 use Rattle.disk_atomic.proofs.finishing.finish_stopped.Given as goal
 
 abbrev pub invariant-found : goal.invariant-found

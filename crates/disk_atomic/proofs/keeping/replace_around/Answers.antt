@@ -1,7 +1,5 @@
-use Rattle.std.proofs.Common.{◌≡◌, ◌⊎◌, inl, ℕ, List, arith}
-use Rattle.std.proofs.lemmas.Result.{on_ok_weaker}
-use Rattle.disk_io.specs.{Disk.bytes_in, Runs.LeavesOnly, Runs.OneStepOn}
-use Rattle.disk_io.proofs.Moments.{then_nothing}
+use Rattle.std.proofs.{Common.{◌≡◌, ◌⊎◌, inl, ℕ, List, arith}, lemmas.Result.on_ok_weaker}
+use Rattle.disk_io.{specs.{Disk.bytes_in, Runs.{LeavesOnly, OneStepOn}}, proofs.Moments.then_nothing}
 use Rattle.disk_atomic.specs.{Changes.ChangesOnly, Keeping.kept_bytes, Replacing.Replaces}
 use Rattle.disk_atomic.proofs.{Changes.only_nothing, Changes.then_only, Changes.weaker_steps, Changes.wider, Parts.on_disk_as, Replaced.not_yet, Replaced.renamed_only, Replaced.replaced_run}
 use Rattle.disk_atomic.proofs.{Whole.some_is_there, keeping.replace_around.Goals.After-rename}

@@ -1,8 +1,6 @@
-use Rattle.std.proofs.Common.{◌≡◌, ℕ, List, refl, arith}
-use Rattle.std.proofs.lemmas.Result.{on_ok_weaker}
+use Rattle.std.proofs.{Common.{◌≡◌, ℕ, List, refl, arith}, lemmas.Result.on_ok_weaker}
 use Rattle.disk_io.specs.Steps.{TornMaking}
-use Rattle.disk_atomic.specs.Changes.{ChangesOnly}
-use Rattle.disk_atomic.proofs.{Growing.grows_from_none, Changes.only_nothing, Changes.only_path, Changes.then_only, Parts.part_still}
+use Rattle.disk_atomic.{specs.Changes.ChangesOnly, proofs.{Growing.grows_from_none, Changes.{only_nothing, only_path, then_only}, Parts.part_still}}
 use Rattle.disk_atomic.proofs.keeping.stage_kept.Goals.{After-create, After-sync_parent_folder-2}
 use Rattle.disk_atomic.proofs.keeping.stage_kept.Given as given
 use Rattle.disk_atomic.proofs.keeping.stage_kept.Goals as goal

@@ -13,8 +13,7 @@ returns-clause-gives g c =
     gives_quiet (g.D.Disk.state c.args.disk.now) (g.D.Disk.state c.link_path.new.disk) (g.D.Disk.state c.has_both.new.disk) c.args.path.now c.args.staging.now c.link_path.ensures.gives c.has_both.ensures.quiet
 
 pub returns-then-branch-clause-over_none : goal.returns-then-branch-clause-over_none
-returns-then-branch-clause-over_none g c honest some =
-    absurd (none_is_not_there _ ((c.in_ok-link_path.ensures.free honest).0 c.if-branch.true) some)
+returns-then-branch-clause-over_none g c honest some = absurd (none_is_not_there _ ((c.in_ok-link_path.ensures.free honest).0 c.if-branch.true) some)
 
 pub returns-clause-given : goal.returns-clause-given
 returns-clause-given g c honest = grind (arith, IfOk-weaker)

@@ -1,5 +1,4 @@
-use Rattle.std.proofs.Common.{◌<◌, ◌∙◌, get_or, inr, ⊎_elim, length, arith}
-use Rattle.std.proofs.lemmas.Bool.{and_parts}
+use Rattle.std.proofs.{Common.{◌<◌, ◌∙◌, get_or, inr, ⊎_elim, length, arith}, lemmas.Bool.and_parts}
 use Rattle.disk_atomic.specs.{Naming.HasItsPath, Naming.KeepsPath, Naming.Names, Naming.NamesEach, Naming.IsWholeAtEither, Outgoing.AreApart, Outgoing.IsOfOne, Outgoing.IsStaged, Outgoing.staged_in}
 use Rattle.disk_atomic.proofs.Anchors.{anchor_stays, anchored_now, has_path, has_path_stays, IsAnchored, IsSameAt, path_now, path_stays, same_stays, staged_stays, whole_now, whole_stays}
 use Rattle.disk_atomic.proofs.Each.{ahead, among, behind, each, here}

@@ -1,5 +1,4 @@
-use Rattle.std.proofs.Common.{◌≡◌, ◌≤◌, true, false, length}
-use Rattle.std.specs.{Prelude.All, List.AllWithin}
+use Rattle.std.{proofs.Common.{◌≡◌, ◌≤◌, true, false, length}, specs.{Prelude.All, List.AllWithin}}
 use Rattle.disk_io.specs.{Disk.Honestly, Runs.LeavesOnly, Runs.OneStepOn}
 use Rattle.disk_atomic.specs.{Changes.ChangesOnly, Naming.HasItsPath, Naming.KeepsPath, Naming.NamesEach, Outgoing.IsFree, Outgoing.IsOfOne, Outgoing.IsStaged, Outgoing.staged_in}
 use Rattle.disk_atomic.proofs.Anchors.{IsAnchored, IsSameAt}

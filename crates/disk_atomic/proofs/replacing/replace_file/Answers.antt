@@ -1,10 +1,7 @@
-use Rattle.std.proofs.Common.{◌≡◌, ◌⊎◌, inl, ◌∙◌, ℕ, List, arith}
-use Rattle.std.proofs.lemmas.Result.{on_ok_weaker}
-use Rattle.disk_io.specs.Runs.{LeavesOnly, OneStepOn}
-use Rattle.disk_io.proofs.Moments.{then_nothing}
-use Rattle.disk_atomic.specs.{Changes.ChangesOnly, Replacing.Replaces}
+use Rattle.std.proofs.{Common.{◌≡◌, ◌⊎◌, inl, ◌∙◌, ℕ, List, arith}, lemmas.Result.on_ok_weaker}
+use Rattle.disk_io.{specs.Runs.{LeavesOnly, OneStepOn}, proofs.Moments.then_nothing}
+use Rattle.disk_atomic.{specs.{Changes.ChangesOnly, Replacing.Replaces}, proofs.replacing.replace_file.Goals.After-rename}
 use Rattle.disk_atomic.proofs.{Changes.only_nothing, Changes.then_only, Changes.weaker_steps, Changes.wider, Replaced.not_yet, Replaced.renamed_only, Replaced.replaced_run, Whole.some_is_there}
-use Rattle.disk_atomic.proofs.replacing.replace_file.Goals.{After-rename}
 use Rattle.disk_atomic.proofs.replacing.replace_file.Given as given
 use Rattle.disk_atomic.proofs.replacing.replace_file.Goals as goal
 

@@ -1,5 +1,4 @@
-use Rattle.std.proofs.Common.{◌≤◌}
-use Rattle.std.specs.List.{AllWithin}
+use Rattle.std.{proofs.Common.◌≤◌, specs.List.AllWithin}
 use Rattle.disk_io.specs.{Disk.Honestly, Runs.ChangesNothing}
 use Rattle.disk_atomic.specs.Outgoing.{IsFree}
 use Rattle.disk_atomic.proofs.staged.are_free.Given as goal

@@ -1,5 +1,4 @@
-use Rattle.std.proofs.Common.{get_or, ◌<◌, length, arith, refl}
-use Rattle.std.proofs.lemmas.List.Elements.{AllWithin-from_all, AllWithin-none}
+use Rattle.std.proofs.{Common.{get_or, ◌<◌, length, arith, refl}, lemmas.List.Elements.{AllWithin-from_all, AllWithin-none}}
 use Rattle.disk_io.specs.Steps.{TornMaking}
 use Rattle.disk_atomic.specs.{Changes.ChangesOnly, Outgoing.AreApart, Outgoing.IsStagingOne, Outgoing.IsMade, Outgoing.IsStagingNamed}
 use Rattle.disk_atomic.proofs.Packets.{apart_back, At, staging_one, made_stays, named_stays, nobody}

@@ -1,5 +1,4 @@
-use Rattle.std.proofs.Common.{◌≡◌, ℕ, List, length, refl, arith}
-use Rattle.std.proofs.lemmas.Result.{on_ok_weaker}
+use Rattle.std.proofs.{Common.{◌≡◌, ℕ, List, length, refl, arith}, lemmas.Result.on_ok_weaker}
 use Rattle.disk_io.specs.Steps.{TornWrite}
 use Rattle.disk_atomic.specs.Changes.{ChangesOnly}
 use Rattle.disk_atomic.proofs.{Changes.only_bytes, Changes.only_nothing, Changes.then_only, Whole.written_whole, staging.fill_file.Goals.After-write_at}

@@ -1,5 +1,4 @@
-use Rattle.std.proofs.Common.{◌≡◌, ◌∙◌, ℕ, List, refl}
-use Rattle.std.proofs.lemmas.Result.{on_ok_weaker}
+use Rattle.std.proofs.{Common.{◌≡◌, ◌∙◌, ℕ, List, refl}, lemmas.Result.on_ok_weaker}
 use Rattle.disk_io.specs.Steps.{TornMaking}
 use Rattle.disk_atomic.specs.Changes.{ChangesOnly}
 use Rattle.disk_atomic.proofs.{Changes.only_nothing, Changes.only_path, Changes.then_only, staging.stage_file.Goals.After-create, staging.stage_file.Goals.After-sync_parent_folder-2}

@@ -1,7 +1,6 @@
 use Rattle.std.proofs.Common.{◌≡◌, ℕ, List, refl}
 use Rattle.disk_io.specs.Steps.{TornRemoval}
-use Rattle.disk_atomic.specs.Changes.{ChangesOnly}
-use Rattle.disk_atomic.proofs.{Changes.only_nothing, Changes.only_path, Changes.then_only, trying.clear_path.Goals.After-remove}
+use Rattle.disk_atomic.{specs.Changes.ChangesOnly, proofs.{Changes.{only_nothing, only_path, then_only}, trying.clear_path.Goals.After-remove}}
 use Rattle.disk_atomic.proofs.trying.clear_path.Given as given
 use Rattle.disk_atomic.proofs.trying.clear_path.Goals as goal
 

@@ -1,5 +1,4 @@
-use Rattle.std.proofs.Common.{ap, length, sym, ◌++◌, ◌∙◌}
-use Rattle.std.proofs.lemmas.{Bool.eqb-true, List.append-nil}
+use Rattle.std.proofs.{Common.{ap, length, sym, ◌++◌, ◌∙◌}, lemmas.{Bool.eqb-true, List.append-nil}}
 use Rattle.echo_text.proofs.TextLines.{no_lines}
 use Rattle.echo_export.specs.MailText.{body_text}
 use Rattle.echo_export.proofs.body.push_body.Goals as goal

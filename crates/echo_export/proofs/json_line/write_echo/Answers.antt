@@ -1,7 +1,6 @@
 use Rattle.std.proofs.{Common.◌≡◌, Common.subst, Common.◌++◌, lemmas.Result.on_ok_weaker}
 use Rattle.echo_filed.specs.Filed.{Filed}
-use Rattle.echo_export.specs.JsonLine.{echo_members, found_members}
-use Rattle.echo_export.proofs.Joins.{joined}
+use Rattle.echo_export.{specs.JsonLine.{echo_members, found_members}, proofs.Joins.joined}
 use Rattle.echo_export.proofs.json_line.write_echo.Goals as goal
 
 pub returns-clause-tokens : goal.returns-clause-tokens

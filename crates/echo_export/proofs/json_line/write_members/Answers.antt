@@ -1,8 +1,6 @@
-use Rattle.std.proofs.Common.{◌≡◌, subst, ◌++◌, Option, option_copied}
-use Rattle.std.proofs.lemmas.Result.{on_ok_weaker}
+use Rattle.std.proofs.{Common.{◌≡◌, subst, ◌++◌, Option, option_copied}, lemmas.Result.on_ok_weaker}
 use Rattle.echo_charset.specs.declared.charset.Charset.{Charset}
-use Rattle.echo_export.specs.JsonLine.{charset_members, echo_members, name_members, place_members}
-use Rattle.echo_export.proofs.Joins.{joined}
+use Rattle.echo_export.{specs.JsonLine.{charset_members, echo_members, name_members, place_members}, proofs.Joins.joined}
 use Rattle.echo_export.proofs.json_line.write_members.Goals as goal
 
 pub returns-clause-tokens : goal.returns-clause-tokens

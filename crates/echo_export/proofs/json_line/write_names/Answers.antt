@@ -1,8 +1,6 @@
-use Rattle.std.proofs.Common.{◌≡◌, ap, subst, ◌∙◌, ◌++◌, codes}
-use Rattle.std.proofs.lemmas.Result.{on_ok_weaker}
+use Rattle.std.proofs.{Common.{◌≡◌, ap, subst, ◌∙◌, ◌++◌, codes}, lemmas.Result.on_ok_weaker}
 use Rattle.echo_filed.specs.Filed.{Filed}
-use Rattle.echo_export.specs.JsonLine.{name_members, text_member}
-use Rattle.echo_export.proofs.Joins.{joined}
+use Rattle.echo_export.{specs.JsonLine.{name_members, text_member}, proofs.Joins.joined}
 use Rattle.echo_export.proofs.json_line.write_names.Goals as goal
 
 pub returns-clause-tokens : goal.returns-clause-tokens

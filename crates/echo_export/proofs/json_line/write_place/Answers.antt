@@ -1,9 +1,7 @@
-use Rattle.std.proofs.Common.{◌≡◌, ap, subst, ◌∙◌, ◌++◌, codes, decimal}
-use Rattle.std.proofs.lemmas.Result.{on_ok_weaker}
+use Rattle.std.proofs.{Common.{◌≡◌, ap, subst, ◌∙◌, ◌++◌, codes, decimal}, lemmas.Result.on_ok_weaker}
 use Rattle.json.specs.Token.{number, string}
 use Rattle.echo_filed.specs.Filed.{Filed}
-use Rattle.echo_export.specs.JsonLine.{area_member, member_of, place_members, state_word}
-use Rattle.echo_export.proofs.Joins.{joined}
+use Rattle.echo_export.{specs.JsonLine.{area_member, member_of, place_members, state_word}, proofs.Joins.joined}
 use Rattle.echo_export.proofs.json_line.write_place.Goals as goal
 
 pub returns-clause-tokens : goal.returns-clause-tokens

@@ -1,6 +1,4 @@
-use Rattle.std.proofs.Common.{ap, length, sym, ◌++◌, ◌∷◌, [], ◌∙◌}
-use Rattle.std.proofs.lemmas.{Bool.eqb-true, List.append-nil}
-use Rattle.std.specs.List.{flat_map}
+use Rattle.std.{proofs.{Common.{ap, length, sym, ◌++◌, ◌∷◌, [], ◌∙◌}, lemmas.{Bool.eqb-true, List.append-nil}}, specs.List.flat_map}
 use Rattle.json.specs.Token.{string}
 use Rattle.echo_text.proofs.TextLines.{no_lines}
 use Rattle.echo_export.specs.Label.{text_as}

@@ -1,5 +1,4 @@
-use Rattle.std.proofs.Common.{◌≡◌, ◌++◌, [], ◌∷◌, length}
-use Rattle.std.specs.List.{flat_map}
+use Rattle.std.{proofs.Common.{◌≡◌, ◌++◌, [], ◌∷◌, length}, specs.List.flat_map}
 use Rattle.json.specs.Token.{string}
 use Rattle.echo_text.specs.Lines.{lines}
 use Rattle.echo_export.specs.Label.{text_as}

@@ -1,5 +1,4 @@
-use Rattle.std.proofs.Common.{◌≡◌, ◌++◌, ◌∷◌, [], take}
-use Rattle.std.specs.List.{flat_map}
+use Rattle.std.{proofs.Common.{◌≡◌, ◌++◌, ◌∷◌, [], take}, specs.List.flat_map}
 use Rattle.json.specs.Token.{string}
 use Rattle.echo_addr.specs.Address.{net_node_text}
 use Rattle.echo_export.proofs.lists.write_entries.Given as goal

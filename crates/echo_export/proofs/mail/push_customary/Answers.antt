@@ -1,8 +1,5 @@
-use Rattle.std.proofs.Common.{ap, ◌++◌, ◌∙◌, codes, take}
-use Rattle.std.proofs.lemmas.Result.{on_ok_weaker}
-use Rattle.std.specs.Prelude.{slice_range}
-use Rattle.echo_export.specs.MailText.{century}
-use Rattle.echo_export.proofs.Joins.{joined}
+use Rattle.std.{proofs.{Common.{ap, ◌++◌, ◌∙◌, codes, take}, lemmas.Result.on_ok_weaker}, specs.Prelude.slice_range}
+use Rattle.echo_export.{specs.MailText.century, proofs.Joins.joined}
 use Rattle.echo_export.proofs.mail.push_customary.Goals as goal
 
 pub returns : goal.returns

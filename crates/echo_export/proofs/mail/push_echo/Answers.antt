@@ -1,7 +1,6 @@
 use Rattle.std.proofs.{Common.◌≡◌, Common.subst, Common.◌++◌, lemmas.Result.on_ok_weaker}
 use Rattle.echo_filed.specs.Filed.{Filed}
-use Rattle.echo_export.specs.MailText.{echo_head, id_lines, way_lines}
-use Rattle.echo_export.proofs.Joins.{joined}
+use Rattle.echo_export.{specs.MailText.{echo_head, id_lines, way_lines}, proofs.Joins.joined}
 use Rattle.echo_export.proofs.mail.push_echo.Goals as goal
 
 pub returns : goal.returns

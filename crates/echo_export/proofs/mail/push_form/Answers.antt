@@ -1,6 +1,5 @@
 use Rattle.std.proofs.{Common.ap, Common.◌++◌, Common.◌∙◌, Common.codes, lemmas.Result.on_ok_weaker}
-use Rattle.echo_export.specs.HeaderText.{mail_charset}
-use Rattle.echo_export.proofs.Joins.{joined}
+use Rattle.echo_export.{specs.HeaderText.mail_charset, proofs.Joins.joined}
 use Rattle.echo_export.proofs.mail.push_form.Goals as goal
 
 pub returns : goal.returns

@@ -1,8 +1,6 @@
-use Rattle.std.proofs.Common.{◌≡◌, subst, ◌++◌, codes, Option, None, option_copied}
-use Rattle.std.proofs.lemmas.Result.{on_ok_weaker}
+use Rattle.std.proofs.{Common.{◌≡◌, subst, ◌++◌, codes, Option, None, option_copied}, lemmas.Result.on_ok_weaker}
 use Rattle.echo_charset.specs.declared.charset.Charset.{Charset}
-use Rattle.echo_export.specs.{HeaderText.found_line, MailText.echo_head, MailText.form_lines, MailText.mailbox_line, MailText.name_lines}
-use Rattle.echo_export.proofs.Joins.{joined}
+use Rattle.echo_export.{specs.{HeaderText.found_line, MailText.{echo_head, form_lines, mailbox_line, name_lines}}, proofs.Joins.joined}
 use Rattle.echo_export.proofs.mail.push_head.Goals as goal
 
 pub returns : goal.returns

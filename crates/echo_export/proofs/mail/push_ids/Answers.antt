@@ -1,7 +1,6 @@
 use Rattle.std.proofs.{Common.ap, Common.◌++◌, Common.◌∙◌, Common.codes, lemmas.Result.on_ok_weaker}
 use Rattle.echo_text.specs.Echo.{msgid_of, reply_of}
-use Rattle.echo_export.specs.HeaderText.{id_line}
-use Rattle.echo_export.proofs.Joins.{joined}
+use Rattle.echo_export.{specs.HeaderText.id_line, proofs.Joins.joined}
 use Rattle.echo_export.proofs.mail.push_ids.Goals as goal
 
 pub returns : goal.returns

@@ -1,7 +1,6 @@
 use Rattle.std.proofs.Common.{◌≡◌, ap, subst, ◌++◌, ◌∙◌, codes, List, Option, ℕ, option_copied}
 use Rattle.echo_charset.specs.declared.charset.Charset.{Charset}
-use Rattle.echo_export.specs.{Label.charset_for, MailText.body_text, MailText.head_text}
-use Rattle.echo_export.proofs.Joins.{anyhow, joined}
+use Rattle.echo_export.{specs.{Label.charset_for, MailText.{body_text, head_text}}, proofs.Joins.{anyhow, joined}}
 use Rattle.echo_export.proofs.mail.push_mail.Goals as goal
 
 pub returns-clause-mail : goal.returns-clause-mail

@@ -1,8 +1,6 @@
-use Rattle.std.proofs.Common.{◌≡◌, ap, subst, ◌++◌, ◌∙◌, codes}
-use Rattle.std.proofs.lemmas.Result.{on_ok_weaker}
+use Rattle.std.proofs.{Common.{◌≡◌, ap, subst, ◌++◌, ◌∙◌, codes}, lemmas.Result.on_ok_weaker}
 use Rattle.echo_filed.specs.Filed.{Filed}
-use Rattle.echo_export.specs.{HeaderText.field_line, HeaderText.name_line, MailText.name_lines}
-use Rattle.echo_export.proofs.Joins.{joined}
+use Rattle.echo_export.{specs.{HeaderText.{field_line, name_line}, MailText.name_lines}, proofs.Joins.joined}
 use Rattle.echo_export.proofs.mail.push_names.Goals as goal
 
 pub returns : goal.returns

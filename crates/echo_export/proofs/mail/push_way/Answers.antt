@@ -1,8 +1,6 @@
-use Rattle.std.proofs.Common.{◌≡◌, ap, subst, ◌++◌, ◌∙◌, codes, length}
-use Rattle.std.proofs.lemmas.Result.{on_ok_weaker}
+use Rattle.std.proofs.{Common.{◌≡◌, ap, subst, ◌++◌, ◌∙◌, codes, length}, lemmas.Result.on_ok_weaker}
 use Rattle.echo_text.specs.Echo.{EchoText}
-use Rattle.echo_export.specs.MailText.{area_text, seen_line, way_lines, written_path}
-use Rattle.echo_export.proofs.Joins.{joined}
+use Rattle.echo_export.{specs.MailText.{area_text, seen_line, way_lines, written_path}, proofs.Joins.joined}
 use Rattle.echo_export.proofs.mail.push_way.Goals as goal
 
 pub returns : goal.returns

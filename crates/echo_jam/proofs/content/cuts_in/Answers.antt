@@ -1,6 +1,4 @@
-use Rattle.std.proofs.Common.{ℕ, ◌+◌, List, ap, length, sym, ◌∙◌}
-use Rattle.std.proofs.lemmas.Bool.{eqb-true}
-use Rattle.std.specs.List.{fold}
+use Rattle.std.{proofs.{Common.{ℕ, ◌+◌, List, ap, length, sym, ◌∙◌}, lemmas.Bool.eqb-true}, specs.List.fold}
 use Rattle.echo_text.proofs.TextLines.{no_lines}
 use Rattle.echo_jam.specs.Fields.{content_cut, content_of}
 use Rattle.echo_jam.proofs.content.cuts_in.Goals as goal

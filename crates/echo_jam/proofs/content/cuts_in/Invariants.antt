@@ -1,5 +1,4 @@
-use Rattle.std.proofs.Common.{◌≡◌, ◌+◌, ℕ, List, length}
-use Rattle.std.specs.List.{fold}
+use Rattle.std.{proofs.Common.{◌≡◌, ◌+◌, ℕ, List, length}, specs.List.fold}
 use Rattle.echo_text.specs.Lines.{lines}
 use Rattle.echo_jam.specs.Fields.{content_cut, content_of, cuts_in}
 use Rattle.echo_jam.proofs.content.cuts_in.Given as goal

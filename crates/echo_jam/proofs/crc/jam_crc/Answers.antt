@@ -1,6 +1,4 @@
-use Rattle.std.proofs.Common.{◌≡◌, ℕ, ◌+◌, ◌<◌, ◌∙◌, List, ap, drop, get_or, length, map, sym}
-use Rattle.std.proofs.lemmas.List.{at_drop_more}
-use Rattle.std.specs.Char.{to_ascii_lowercase}
+use Rattle.std.{proofs.{Common.{◌≡◌, ℕ, ◌+◌, ◌<◌, ◌∙◌, List, ap, drop, get_or, length, map, sym}, lemmas.List.at_drop_more}, specs.Char.to_ascii_lowercase}
 use Rattle.echo_jam.specs.Crc.{crc_after, crc_byte}
 use Rattle.echo_jam.proofs.crc.jam_crc.Goals as goal
 

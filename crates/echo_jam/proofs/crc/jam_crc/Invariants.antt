@@ -1,5 +1,4 @@
-use Rattle.std.proofs.Common.{◌≡◌, drop, map}
-use Rattle.std.specs.Char.{to_ascii_lowercase}
+use Rattle.std.{proofs.Common.{◌≡◌, drop, map}, specs.Char.to_ascii_lowercase}
 use Rattle.echo_jam.specs.Crc.{crc_after}
 use Rattle.echo_jam.proofs.crc.jam_crc.Given as goal
 

@@ -1,6 +1,4 @@
-use Rattle.std.proofs.Common.{ap, length, sym, ◌++◌, ◌∙◌}
-use Rattle.std.proofs.lemmas.{Bool.eqb-true, List.append-nil}
-use Rattle.std.specs.List.{flat_map}
+use Rattle.std.{proofs.{Common.{ap, length, sym, ◌++◌, ◌∙◌}, lemmas.{Bool.eqb-true, List.append-nil}}, specs.List.flat_map}
 use Rattle.echo_text.proofs.TextLines.{no_lines}
 use Rattle.echo_jam.specs.Fields.{body_line}
 use Rattle.echo_jam.proofs.fields.push_body.Goals as goal

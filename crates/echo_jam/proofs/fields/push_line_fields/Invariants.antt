@@ -1,5 +1,4 @@
-use Rattle.std.proofs.Common.{◌≡◌, ◌++◌, length}
-use Rattle.std.specs.List.{flat_map}
+use Rattle.std.{proofs.Common.{◌≡◌, ◌++◌, length}, specs.List.flat_map}
 use Rattle.echo_text.specs.Lines.{lines}
 use Rattle.echo_jam.specs.Fields.{line_field}
 use Rattle.echo_jam.proofs.fields.push_line_fields.Given as goal

@@ -1,5 +1,4 @@
-use Rattle.std.proofs.Common.{◌≡◌, ℕ, suc, ◌+◌, ◌-◌, ◌==◌, ◌∙◌, ap, arith, List, Some, sym}
-use Rattle.std.proofs.lemmas.Bool.{cond-false, ne_eqb}
+use Rattle.std.proofs.{Common.{◌≡◌, ℕ, suc, ◌+◌, ◌-◌, ◌==◌, ◌∙◌, ap, arith, List, Some, sym}, lemmas.Bool.{cond-false, ne_eqb}}
 use Rattle.echo_jam.specs.Links.{field_in, last_with}
 use Rattle.echo_jam.proofs.links.last_with.Goals as goal
 

@@ -1,5 +1,4 @@
-use Rattle.std.proofs.Common.{ℕ, ◌++◌, ◌∙◌, ap, length}
-use Rattle.std.proofs.lemmas.Result.{on_ok_weaker}
+use Rattle.std.proofs.{Common.{ℕ, ◌++◌, ◌∙◌, ap, length}, lemmas.Result.on_ok_weaker}
 use Rattle.echo_jam.specs.JamMessage.{header_back, header_front, header_ids}
 use Rattle.echo_stored.proofs.Joins.{joined}
 use Rattle.echo_jam.proofs.message.push_header.Goals as goal

@@ -1,5 +1,4 @@
-use Rattle.std.proofs.{Common.◌&&◌, lemmas.Bool.and_parts}
-use Rattle.std.specs.Prelude.{not, slice_range, ◌==◌}
+use Rattle.std.{proofs.{Common.◌&&◌, lemmas.Bool.and_parts}, specs.Prelude.{not, slice_range, ◌==◌}}
 use Rattle.echo_jam.specs.Moment.{is_pair, month_of}
 use Rattle.echo_jam.proofs.moment.time_of.Goals as goal
 

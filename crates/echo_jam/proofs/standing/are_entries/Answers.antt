@@ -1,7 +1,6 @@
 use Rattle.std.proofs.Common.{◌≡◌, ℕ, ◌+◌, ◌&&◌, ◌∙◌, Bool, List, add-one, ap, sym}
-use Rattle.echo_jam.specs.Standing.{are_entries, is_entry, place_in}
+use Rattle.echo_jam.{specs.Standing.{are_entries, is_entry, place_in}, proofs.standing.are_entries.Goals.{then-whole, else-whole}}
 use Rattle.echo_jam.proofs.standing.are_entries.Goals as goal
-use Rattle.echo_jam.proofs.standing.are_entries.Goals.{then-whole, else-whole}
 
 one_more : (headers index : List ℕ) (texts i : ℕ) (new : Bool)
     → new ≡ are_entries headers index texts i && is_entry headers texts (place_in index i) → new ≡ are_entries headers index texts (i + 1)

@@ -1,6 +1,5 @@
 use Rattle.std.proofs.Common.{subst, sym}
-use Rattle.echo_links.specs.Links.{IsFile}
-use Rattle.echo_links.proofs.LinkFiles.{file_is_file}
+use Rattle.echo_links.{specs.Links.IsFile, proofs.LinkFiles.file_is_file}
 use Rattle.echo_links.proofs.laws.link_file_law.Goals as goal
 
 pub returns : goal.returns

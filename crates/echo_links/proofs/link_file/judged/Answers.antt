@@ -1,6 +1,5 @@
 use Rattle.std.proofs.{Common.inr, Common.subst, Common.sym, Common.arith, lemmas.Result.err_from_is_err_and}
-use Rattle.echo_links.specs.Links.{IsFile}
-use Rattle.echo_links.proofs.{LinkFiles.file_is_file, LinkSteps.file_bad, LinkSteps.file_homeless, LinkSteps.file_said}
+use Rattle.echo_links.{specs.Links.IsFile, proofs.{LinkFiles.file_is_file, LinkSteps.{file_bad, file_homeless, file_said}}}
 use Rattle.echo_links.proofs.link_file.judged.Goals as goal
 
 pub returns-in_err-reading : goal.returns-in_err-reading

@@ -1,5 +1,4 @@
-use Rattle.std.proofs.Common.{ap, length, sym, ◌++◌, ◌∙◌}
-use Rattle.std.proofs.lemmas.{Bool.eqb-true, List.append-nil}
+use Rattle.std.proofs.{Common.{ap, length, sym, ◌++◌, ◌∙◌}, lemmas.{Bool.eqb-true, List.append-nil}}
 use Rattle.echo_text.proofs.TextLines.{no_lines}
 use Rattle.echo_mail.specs.Encoded.{words_text}
 use Rattle.echo_mail.proofs.encoded.push_words.Goals as goal

@@ -1,5 +1,4 @@
-use Rattle.std.proofs.{Common.ap, Common.length, Common.sym, Common.◌∙◌, lemmas.Bool.eqb-true}
-use Rattle.std.specs.List.{list_all}
+use Rattle.std.{proofs.{Common.{ap, length, sym, ◌∙◌}, lemmas.Bool.eqb-true}, specs.List.list_all}
 use Rattle.echo_text.proofs.TextLines.{no_lines}
 use Rattle.echo_mail.specs.Head.{is_field}
 use Rattle.echo_mail.proofs.head.are_fields.Goals as goal

@@ -1,5 +1,4 @@
-use Rattle.std.proofs.Common.{◌≡◌, length}
-use Rattle.std.specs.List.{list_all}
+use Rattle.std.{proofs.Common.{◌≡◌, length}, specs.List.list_all}
 use Rattle.echo_text.specs.Lines.{lines}
 use Rattle.echo_mail.specs.Head.{is_field}
 use Rattle.echo_mail.proofs.head.are_fields.Given as goal

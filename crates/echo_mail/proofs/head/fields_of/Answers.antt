@@ -1,5 +1,4 @@
-use Rattle.std.proofs.Common.{ap, length, map, sym, ◌++◌, ◌∙◌}
-use Rattle.std.proofs.lemmas.{Bool.eqb-true, List.append-nil}
+use Rattle.std.proofs.{Common.{ap, length, map, sym, ◌++◌, ◌∙◌}, lemmas.{Bool.eqb-true, List.append-nil}}
 use Rattle.echo_text.proofs.TextLines.{no_lines}
 use Rattle.echo_mail.specs.Head.{field_of}
 use Rattle.echo_mail.proofs.head.fields_of.Goals as goal

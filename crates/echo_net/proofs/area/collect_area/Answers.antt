@@ -1,8 +1,6 @@
-use Rattle.std.proofs.Common.{sym, subst, List, vec_len, arith}
-use Rattle.std.specs.Prelude.{Contains}
+use Rattle.std.{proofs.Common.{sym, subst, List, vec_len, arith}, specs.Prelude.Contains}
 use Rattle.echo_addr.specs.declared.address.Address.{Address}
-use Rattle.echo_net.specs.declared.link.Link.{Link}
-use Rattle.echo_net.proofs.Collected.{carries_listed, links_listed, pairs_counted, systems_counted}
+use Rattle.echo_net.{specs.declared.link.Link.Link, proofs.Collected.{carries_listed, links_listed, pairs_counted, systems_counted}}
 use Rattle.echo_net.proofs.area.collect_area.Goals as goal
 
 pub returns-clause-members : goal.returns-clause-members

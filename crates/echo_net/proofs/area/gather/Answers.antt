@@ -1,9 +1,8 @@
 use Rattle.std.proofs.Common.{◌++◌, ◌∷◌, [], sym, ap, ◌∙◌, List, take, subst, arith}
 use Rattle.echo_addr.specs.declared.address.Address.{Address}
 use Rattle.echo_links.specs.Links.{IsFile, LinkFile}
-use Rattle.echo_net.specs.declared.link.Link.{Link}
+use Rattle.echo_net.{specs.declared.link.Link.Link, proofs.{Orders.one_more, Collected.{flat_map_take, systems_take}}}
 use Rattle.echo_net.specs.Nets as net
-use Rattle.echo_net.proofs.{Orders.one_more, Collected.flat_map_take, Collected.systems_take}
 use Rattle.echo_net.proofs.area.gather.Goals as goal
 
 pub files-preserved : goal.files-preserved

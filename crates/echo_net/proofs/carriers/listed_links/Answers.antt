@@ -1,8 +1,6 @@
-use Rattle.std.proofs.Common.{◌++◌, sym, ap, ◌∙◌, List, take, subst}
-use Rattle.std.specs.List.{flat_map}
+use Rattle.std.{proofs.Common.{◌++◌, sym, ap, ◌∙◌, List, take, subst}, specs.List.flat_map}
 use Rattle.echo_links.specs.Links.{IsFile, LinkFile}
-use Rattle.echo_net.specs.{declared.link.Link.Link, Nets.links_from_file}
-use Rattle.echo_net.proofs.{Orders.one_more, Collected.flat_map_take}
+use Rattle.echo_net.{specs.{declared.link.Link.Link, Nets.links_from_file}, proofs.{Orders.one_more, Collected.flat_map_take}}
 use Rattle.echo_net.proofs.carriers.listed_links.Goals as goal
 
 pub files-preserved : goal.files-preserved

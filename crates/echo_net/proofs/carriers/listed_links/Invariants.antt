@@ -1,5 +1,4 @@
-use Rattle.std.proofs.Common.{◌≡◌, ◌<◌, ℕ, get_or, take}
-use Rattle.std.specs.List.{flat_map}
+use Rattle.std.{proofs.Common.{◌≡◌, ◌<◌, ℕ, get_or, take}, specs.List.flat_map}
 use Rattle.echo_links.specs.Links.{IsFile, LinkFile}
 use Rattle.echo_net.specs.Nets.{links_from_file}
 use Rattle.echo_net.proofs.carriers.listed_links.Given as goal

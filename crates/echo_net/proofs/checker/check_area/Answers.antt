@@ -1,7 +1,6 @@
 use Rattle.std.proofs.{Common.sym, Common.subst, Common.arith, lemmas.Option.MatchOption-at_some}
 use Rattle.model_run.specs.Tidy.{Carries}
-use Rattle.echo_net.specs.Faults.{AreInOrder, AreSoundLinks, IsFirstFault}
-use Rattle.echo_net.proofs.{Collected.at_none, Collected.not_tidy, Owned.in_order_from_sorted}
+use Rattle.echo_net.{specs.Faults.{AreInOrder, AreSoundLinks, IsFirstFault}, proofs.{Collected.{at_none, not_tidy}, Owned.in_order_from_sorted}}
 use Rattle.echo_net.proofs.checker.check_area.Goals as goal
 
 pub returns-in-Some-clause-tidy : goal.returns-in-Some-clause-tidy

@@ -1,7 +1,6 @@
 use Rattle.std.proofs.Common.{◌++◌, ◌∷◌, [], ap, ◌∙◌}
 use Rattle.echo_links.specs.LinkLines.{no_address}
-use Rattle.echo_net.specs.declared.link.Link.{Link}
-use Rattle.echo_net.proofs.Drawings.{step_taken}
+use Rattle.echo_net.{specs.declared.link.Link.Link, proofs.Drawings.step_taken}
 use Rattle.echo_net.proofs.drawing.steps_around.Goals as goal
 
 pub round-preserved : goal.round-preserved

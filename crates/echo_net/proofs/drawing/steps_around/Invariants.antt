@@ -1,7 +1,6 @@
 -- The links so far, and the member that they lead to.
 use Rattle.std.proofs.Common.{◌≡◌, take}
-use Rattle.echo_net.specs.Drawn.{steps_from}
-use Rattle.echo_net.proofs.Drawings.{last_or}
+use Rattle.echo_net.{specs.Drawn.steps_from, proofs.Drawings.last_or}
 use Rattle.echo_net.proofs.drawing.steps_around.Given as goal
 
 abbrev pub invariant-round : goal.invariant-round

@@ -1,7 +1,5 @@
-use Rattle.std.proofs.Common.{◌∙◌, List, ap, drop, sym}
-use Rattle.std.proofs.lemmas.Bool.{eqb-true}
-use Rattle.echo_net.specs.declared.verdict.NetFault.{NetFault}
-use Rattle.echo_net.proofs.AllFaults.{no_items}
+use Rattle.std.proofs.{Common.{◌∙◌, List, ap, drop, sym}, lemmas.Bool.eqb-true}
+use Rattle.echo_net.{specs.declared.verdict.NetFault.NetFault, proofs.AllFaults.no_items}
 use Rattle.echo_net.proofs.each_fault.behind_first.Goals as goal
 
 pub returns-then-is_empty : goal.returns-then-is_empty

@@ -1,6 +1,5 @@
 use Rattle.std.proofs.Common.{subst, sym}
-use Rattle.echo_net.specs.{declared.verdict.Verdict.Verdict, AllFaults.AreFurther, Faults.IfNo, Faults.IsFirstFault}
-use Rattle.echo_net.proofs.AllFaults.{others_of}
+use Rattle.echo_net.{specs.{declared.verdict.Verdict.Verdict, AllFaults.AreFurther, Faults.{IfNo, IsFirstFault}}, proofs.AllFaults.others_of}
 use Rattle.echo_net.proofs.each_fault.further.Goals as goal
 
 pub returns-in-No : goal.returns-in-No

@@ -1,8 +1,6 @@
-use Rattle.std.proofs.Common.{◌≡◌, ◌++◌, ◌∙◌, List, ap, map}
-use Rattle.std.proofs.lemmas.Result.{on_ok_weaker}
+use Rattle.std.proofs.{Common.{◌≡◌, ◌++◌, ◌∙◌, List, ap, map}, lemmas.Result.on_ok_weaker}
 use Rattle.echo_net.specs.declared.each_fault.Kind.TheVariants as kinds
-use Rattle.echo_net.specs.{declared.link.Link.Link, AllFaults.fault_of, Firsts.OccursTwice}
-use Rattle.echo_net.proofs.Drawings.{links_in_order}
+use Rattle.echo_net.{specs.{declared.link.Link.Link, AllFaults.fault_of, Firsts.OccursTwice}, proofs.Drawings.links_in_order}
 use Rattle.echo_net.proofs.each_fault.push_two_files.Goals as goal
 
 pub returns : goal.returns

@@ -1,7 +1,5 @@
-use Rattle.std.proofs.Common.{arith}
-use Rattle.std.specs.Prelude.{Contains}
-use Rattle.echo_net.specs.Nets.{link}
-use Rattle.echo_net.proofs.Orders.{at_place, all_there, first_here, one_more}
+use Rattle.std.{proofs.Common.arith, specs.Prelude.Contains}
+use Rattle.echo_net.{specs.Nets.link, proofs.Orders.{at_place, all_there, first_here, one_more}}
 use Rattle.echo_net.proofs.first_links.one_sided_link.Goals as goal
 
 pub returns-in_default : goal.returns-in_default

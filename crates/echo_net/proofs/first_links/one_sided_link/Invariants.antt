@@ -1,5 +1,4 @@
-use Rattle.std.proofs.Common.{◌<◌, ℕ, get_or}
-use Rattle.std.specs.Prelude.{Contains}
+use Rattle.std.{proofs.Common.{◌<◌, ℕ, get_or}, specs.Prelude.Contains}
 use Rattle.echo_net.specs.{declared.link.Link.Link, Nets.link}
 use Rattle.echo_net.proofs.first_links.one_sided_link.Given as goal
 

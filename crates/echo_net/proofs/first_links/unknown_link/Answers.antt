@@ -1,5 +1,4 @@
-use Rattle.std.proofs.Common.{arith}
-use Rattle.std.specs.Prelude.{Contains}
+use Rattle.std.{proofs.Common.arith, specs.Prelude.Contains}
 use Rattle.echo_net.proofs.Orders.{at_place, all_there, first_here, one_more}
 use Rattle.echo_net.proofs.first_links.unknown_link.Goals as goal
 

@@ -1,5 +1,4 @@
-use Rattle.std.proofs.Common.{◌<◌, ℕ, get_or}
-use Rattle.std.specs.Prelude.{Contains}
+use Rattle.std.{proofs.Common.{◌<◌, ℕ, get_or}, specs.Prelude.Contains}
 use Rattle.echo_net.specs.declared.link.Link.{Link}
 use Rattle.echo_net.proofs.first_links.unknown_link.Given as goal
 

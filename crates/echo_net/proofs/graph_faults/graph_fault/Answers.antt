@@ -1,11 +1,9 @@
-use Rattle.std.proofs.Common.{◌≡◌, ◌<◌, ◌∙◌, ℕ, Bool, List, length, map, sym, subst, ap, Option, MatchOption, arith}
-use Rattle.std.proofs.lemmas.Option.{MatchOption-at_some}
+use Rattle.std.proofs.{Common.{◌≡◌, ◌<◌, ◌∙◌, ℕ, Bool, List, length, map, sym, subst, ap, Option, MatchOption, arith}, lemmas.Option.MatchOption-at_some}
 use Rattle.std.specs.List.{All}
 use Rattle.echo_addr.specs.declared.address.Address.{Address}
 use Rattle.model_graph.specs.{Walk.Connected, Cycle.Polygons, Loops.NamedLoop, Reach.FirstUnreached, Rows.linked}
 use Rattle.model_run.specs.Tidy.{lists}
-use Rattle.echo_net.specs.{Faults.numbered, Rows.system_at}
-use Rattle.echo_net.proofs.Collected.{at_none, is_apart, is_loop, is_tidy, loop_within}
+use Rattle.echo_net.{specs.{Faults.numbered, Rows.system_at}, proofs.Collected.{at_none, is_apart, is_loop, is_tidy, loop_within}}
 use Rattle.echo_net.proofs.Owned.{parts, simple_numbers}
 use Rattle.echo_net.proofs.graph_faults.graph_fault.Goals as goal
 

@@ -1,7 +1,6 @@
-use Rattle.std.proofs.{Common.subst, Common.MatchOption, Common.Option, lemmas.Option.MatchOption-at_some}
+use Rattle.std.{proofs.{Common.{subst, MatchOption, Option}, lemmas.Option.MatchOption-at_some}, specs.Prelude.Contains}
 use Rattle.echo_addr.specs.declared.address.Address.{Address}
 use Rattle.model_graph.specs.Walk.{Different}
-use Rattle.std.specs.Prelude.{Contains}
 use Rattle.echo_net.specs.{declared.link.Link.Link, Firsts.HasTwin, Firsts.IsSmallest, Firsts.IsSmallestPair, Firsts.OccursTwice}
 use Rattle.echo_net.specs.Nets as net
 use Rattle.echo_net.proofs.Collected.{all_answered, all_known, at_none, is_carried, lists_itself, net_nodes_differ, none_lists_itself, not_carried, one_sided, same_net_node, unknown}

@@ -1,5 +1,4 @@
-use Rattle.std.proofs.Common.{◌++◌, ◌∙◌, ap}
-use Rattle.std.proofs.Common.{List}
+use Rattle.std.proofs.Common.{◌++◌, ◌∙◌, ap, List}
 use Rattle.echo_addr.specs.declared.address.Address.{Address}
 use Rattle.echo_net.proofs.{Drawings.held_again}
 use Rattle.echo_net.proofs.listing.known.Goals as goal

@@ -1,5 +1,4 @@
-use Rattle.echo_net.proofs.Listers.{missing_held}
-use Rattle.echo_net.specs.Nets.{systems}
+use Rattle.echo_net.{proofs.Listers.missing_held, specs.Nets.systems}
 use Rattle.echo_net.proofs.listing.missing.Goals as goal
 
 pub returns-clause-members : goal.returns-clause-members

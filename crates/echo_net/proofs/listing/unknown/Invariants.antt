@@ -1,5 +1,4 @@
-use Rattle.std.proofs.Common.{◌≡◌, take}
-use Rattle.std.specs.List.{flat_map}
+use Rattle.std.{proofs.Common.{◌≡◌, take}, specs.List.flat_map}
 use Rattle.echo_net.specs.Listings.{unknown_from}
 use Rattle.echo_net.proofs.listing.unknown.Given as goal
 

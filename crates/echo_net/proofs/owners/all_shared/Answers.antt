@@ -1,8 +1,6 @@
-use Rattle.std.proofs.Common.{◌+◌, ◌↔◌, ℕ, subst, List}
-use Rattle.std.specs.Prelude.{Contains}
+use Rattle.std.{proofs.Common.{◌+◌, ◌↔◌, ℕ, subst, List}, specs.Prelude.Contains}
 use Rattle.model_graph.specs.Walk.{IsAt}
-use Rattle.echo_net.specs.{declared.link.Link.Link, declared.owners.Owner.Owner, Pairs.IsShared}
-use Rattle.echo_net.proofs.Owned.{shared_from, shared_to}
+use Rattle.echo_net.{specs.{declared.{link.Link.Link, owners.Owner.Owner}, Pairs.IsShared}, proofs.Owned.{shared_from, shared_to}}
 use Rattle.echo_net.proofs.owners.all_shared.Goals as goal
 
 pub returns-clause-members : goal.returns-clause-members

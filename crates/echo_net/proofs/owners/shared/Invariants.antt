@@ -1,5 +1,4 @@
-use Rattle.echo_net.specs.declared.owners.Owner.{Owner}
-use Rattle.echo_net.proofs.Twins.{AreAlikeBefore}
+use Rattle.echo_net.{specs.declared.owners.Owner.Owner, proofs.Twins.AreAlikeBefore}
 use Rattle.echo_net.proofs.owners.shared.Given as goal
 
 abbrev pub invariant-loop-place : goal.invariant-loop-place

@@ -1,7 +1,5 @@
-use Rattle.std.proofs.Common.{ap, ◌∙◌, List}
-use Rattle.std.specs.Prelude.{slice_get}
-use Rattle.echo_net.specs.declared.link.Link.{Link}
-use Rattle.echo_net.proofs.Owned.{first_shared, none_shared}
+use Rattle.std.{proofs.Common.{ap, ◌∙◌, List}, specs.Prelude.slice_get}
+use Rattle.echo_net.{specs.declared.link.Link.Link, proofs.Owned.{first_shared, none_shared}}
 use Rattle.echo_net.proofs.owners.shared_address.Goals as goal
 
 pub returns-in-Some : goal.returns-in-Some

@@ -1,7 +1,6 @@
 use Rattle.std.proofs.Common.{List, refl}
 use Rattle.echo_addr.specs.declared.address.Address.{Address}
-use Rattle.echo_net.specs.{declared.link.Link.Link, Parts.AreBothWays, Parts.linked_both}
-use Rattle.echo_net.proofs.Groups.{both_held, ends_carry, labels_below, parts_grouped}
+use Rattle.echo_net.{specs.{declared.link.Link.Link, Parts.{AreBothWays, linked_both}}, proofs.Groups.{both_held, ends_carry, labels_below, parts_grouped}}
 use Rattle.echo_net.proofs.parts.all_parts.Goals as goal
 
 pub grouped-requires-clause-same_length : goal.grouped-requires-clause-same_length

@@ -1,5 +1,4 @@
-use Rattle.std.proofs.Common.{◌<◌, ◌∙◌, ℕ, List, inl, inr, length, sym, arith}
-use Rattle.std.proofs.lemmas.List.{get_or_default}
+use Rattle.std.proofs.{Common.{◌<◌, ◌∙◌, ℕ, List, inl, inr, length, sym, arith}, lemmas.List.get_or_default}
 use Rattle.echo_net.proofs.parts.join.Goals as goal
 
 pub returns-then-near-far-clause-joins : goal.returns-then-near-far-clause-joins

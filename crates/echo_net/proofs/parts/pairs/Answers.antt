@@ -1,8 +1,6 @@
-use Rattle.std.proofs.Common.{◌≡◌, ◌↔◌, ℕ, List, get_or, length, refl, subst, arith}
-use Rattle.std.specs.Prelude.{Contains}
+use Rattle.std.{proofs.Common.{◌≡◌, ◌↔◌, ℕ, List, get_or, length, refl, subst, arith}, specs.Prelude.Contains}
 use Rattle.echo_addr.specs.declared.address.Address.{Address}
-use Rattle.echo_net.specs.{declared.link.Link.Link, Nets.link, Parts.ArePaired, Rows.system_at}
-use Rattle.echo_net.proofs.Groups.{pair_more}
+use Rattle.echo_net.{specs.{declared.link.Link.Link, Nets.link, Parts.ArePaired, Rows.system_at}, proofs.Groups.pair_more}
 use Rattle.echo_net.proofs.parts.pairs.Goals as goal
 
 pub places-preserved : goal.places-preserved

@@ -1,6 +1,5 @@
 -- The pairs of the carriers so far.
-use Rattle.std.proofs.Common.{◌↔◌}
-use Rattle.std.specs.Prelude.{Contains}
+use Rattle.std.{proofs.Common.◌↔◌, specs.Prelude.Contains}
 use Rattle.echo_net.specs.{declared.link.Link.Link, Parts.ArePaired}
 use Rattle.echo_net.proofs.parts.pairs.Given as goal
 

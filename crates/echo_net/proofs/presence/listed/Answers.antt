@@ -1,8 +1,7 @@
 use Rattle.std.proofs.Common.{◌≡◌, ◌<◌, ◌+◌, ◌++◌, ◌∙◌, ℕ, List, length, get_or, sym, subst, ap, arith}
 use Rattle.echo_addr.specs.declared.address.Address.{Address}
 use Rattle.model_run.specs.Tidy.{Carries}
-use Rattle.echo_net.specs.Absent.{IsReasonOfAbsence, absent_as}
-use Rattle.echo_net.proofs.Orders.{AreListed, all_listed, one_more_judged}
+use Rattle.echo_net.{specs.Absent.{IsReasonOfAbsence, absent_as}, proofs.Orders.{AreListed, all_listed, one_more_judged}}
 use Rattle.echo_net.proofs.presence.listed.Goals as goal
 
 pub carriers-preserved : goal.carriers-preserved

@@ -1,9 +1,7 @@
 use Rattle.std.proofs.Common.{rules, ◌≡◌, ◌↔◌, ◌≤◌, not, drop, take, length, sym, subst, List, ℕ, true, false, arith}
-use Rattle.std.proofs.lemmas.List.Sorted.{IsPartitionPoint-from_clause}
-use Rattle.std.specs.{Prelude.Contains, List.Sorted.IsPartitionPoint, List.Sorted.IsPartitionedBy}
+use Rattle.std.{proofs.lemmas.List.Sorted.IsPartitionPoint-from_clause, specs.{Prelude.Contains, List.Sorted.{IsPartitionPoint, IsPartitionedBy}}}
 use Rattle.echo_filed.specs.Sets.{address_before}
-use Rattle.echo_net.specs.declared.link.Link.{Link}
-use Rattle.echo_net.proofs.Owned.{cut, not_greater_first, smaller_first}
+use Rattle.echo_net.{specs.declared.link.Link.Link, proofs.Owned.{cut, not_greater_first, smaller_first}}
 use Rattle.echo_net.proofs.rows.outgoing_links.Goals as goal
 
 pub returns : goal.returns

@@ -1,10 +1,8 @@
-use Rattle.std.proofs.Common.{◌+◌, ◌++◌, ◌∷◌, [], ℕ, List, take, sym, subst, arith}
+use Rattle.std.{proofs.Common.{◌+◌, ◌++◌, ◌∷◌, [], ℕ, List, take, sym, subst, arith}, specs.List.AllZip}
 use Rattle.std.proofs.lemmas.{Bool.some_since, Option.MatchOption-at_some, List.take_all, List.take_more, List.Elements.Contains-get_or}
-use Rattle.std.specs.List.{AllZip}
 use Rattle.echo_addr.specs.declared.address.Address.{Address}
-use Rattle.echo_net.specs.declared.link.Link.{Link}
+use Rattle.echo_net.{specs.declared.link.Link.Link, proofs.Owned.{row_ascends, row_members, zip_push}}
 use Rattle.model_graph.specs.Walk.{IsAt}
-use Rattle.echo_net.proofs.Owned.{row_ascends, row_members, zip_push}
 use Rattle.echo_net.proofs.rows.row.Goals as goal
 
 pub unwrap-place-requires : goal.unwrap-place-requires

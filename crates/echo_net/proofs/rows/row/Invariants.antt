@@ -1,5 +1,4 @@
-use Rattle.std.proofs.Common.{take, ℕ}
-use Rattle.std.specs.List.{AllZip}
+use Rattle.std.{proofs.Common.{take, ℕ}, specs.List.AllZip}
 use Rattle.echo_net.specs.declared.link.Link.{Link}
 use Rattle.model_graph.specs.Walk.{IsAt}
 use Rattle.echo_net.proofs.rows.row.Given as goal

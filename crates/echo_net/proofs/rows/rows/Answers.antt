@@ -1,8 +1,7 @@
 use Rattle.std.proofs.Common.{◌≡◌, ◌<◌, ◌+◌, ◌++◌, ◌∷◌, [], ℕ, List, length, sym, subst, ap, ◌∙◌, arith}
 use Rattle.echo_addr.specs.declared.address.Address.{Address}
 use Rattle.model_graph.specs.Rows.{links_at}
-use Rattle.echo_net.specs.{declared.link.Link.Link, Rows.IsRow, Rows.system_at}
-use Rattle.echo_net.proofs.Owned.{is_row, one_row_more}
+use Rattle.echo_net.{specs.{declared.link.Link.Link, Rows.{IsRow, system_at}}, proofs.Owned.{is_row, one_row_more}}
 use Rattle.echo_net.proofs.rows.rows.Goals as goal
 
 pub row-requires-clause-known : goal.row-requires-clause-known

@@ -1,5 +1,4 @@
-use Rattle.std.proofs.Common.{◌↔◌, ℕ, subst, sym, List, map}
-use Rattle.std.specs.{Prelude.Contains, List.Sorted.IsStrictlySortedBy}
+use Rattle.std.{proofs.Common.{◌↔◌, ℕ, subst, sym, List, map}, specs.{Prelude.Contains, List.Sorted.IsStrictlySortedBy}}
 use Rattle.echo_net.specs.{declared.link.Link.Link, declared.same_net_node.Neighbour.Neighbour, Pairs.IsTwin, Pairs.neighbour_of}
 use Rattle.echo_net.proofs.{Orders.neighbour_order, Twins.has_places, Twins.is_twin}
 use Rattle.echo_net.proofs.same_net_node.all_same_net_node.Goals as goal

@@ -1,5 +1,4 @@
-use Rattle.std.proofs.Common.{ℕ, arith, inl, inr, subst}
-use Rattle.std.proofs.lemmas.Bool.{cases_lt}
+use Rattle.std.proofs.{Common.{ℕ, arith, inl, inr, subst}, lemmas.Bool.cases_lt}
 use Rattle.echo_net.specs.Pairs.{IsTwin}
 use Rattle.echo_net.proofs.same_net_node.all_twins.Goals as goal
 

@@ -1,5 +1,4 @@
-use Rattle.std.proofs.Common.{◌<◌, ◌↔◌, ℕ}
-use Rattle.std.specs.Prelude.{Contains}
+use Rattle.std.{proofs.Common.{◌<◌, ◌↔◌, ℕ}, specs.Prelude.Contains}
 use Rattle.echo_net.specs.{declared.link.Link.Link, Pairs.IsTwin}
 use Rattle.echo_net.proofs.same_net_node.all_twins.Given as goal
 

@@ -1,7 +1,5 @@
-use Rattle.std.proofs.Common.{◌+◌, ◌↔◌, ◌∙◌, ℕ, ap, subst, List, map}
-use Rattle.std.specs.Prelude.{Contains, slice_get}
-use Rattle.echo_net.specs.{declared.link.Link.Link, declared.same_net_node.Neighbour.Neighbour, Pairs.IsTwin, Pairs.neighbour_of}
-use Rattle.echo_net.proofs.Twins.{twins_answer}
+use Rattle.std.{proofs.Common.{◌+◌, ◌↔◌, ◌∙◌, ℕ, ap, subst, List, map}, specs.Prelude.{Contains, slice_get}}
+use Rattle.echo_net.{specs.{declared.{link.Link.Link, same_net_node.Neighbour.Neighbour}, Pairs.{IsTwin, neighbour_of}}, proofs.Twins.twins_answer}
 use Rattle.echo_net.proofs.same_net_node.same_net_node.Goals as goal
 
 pub returns : goal.returns

@@ -1,8 +1,7 @@
 use Rattle.std.proofs.Common.{◌+◌, ◌≤◌, sym, subst, ap, ◌∙◌, arith}
 use Rattle.echo_addr.specs.declared.address.{Address.Address, NetNode.NetNode}
-use Rattle.echo_net.specs.declared.same_net_node.Neighbour.{Neighbour}
+use Rattle.echo_net.{specs.declared.same_net_node.Neighbour.Neighbour, proofs.same_net_node.twins.Goals.{then-eq+in_ok-push, else-eq}}
 use Rattle.echo_net.proofs.{Orders.net_node_itself, Orders.net_node_same, Twins.AreAlikeBefore, Twins.no_pair_more, Twins.one_pair_more}
-use Rattle.echo_net.proofs.same_net_node.twins.Goals.{then-eq+in_ok-push, else-eq}
 use Rattle.echo_net.proofs.same_net_node.twins.Goals as goal
 
 pub loop-place-preserved : goal.loop-place-preserved

@@ -1,5 +1,4 @@
-use Rattle.echo_net.specs.declared.same_net_node.Neighbour.{Neighbour}
-use Rattle.echo_net.proofs.Twins.{AreAlikeBefore}
+use Rattle.echo_net.{specs.declared.same_net_node.Neighbour.Neighbour, proofs.Twins.AreAlikeBefore}
 use Rattle.echo_net.proofs.same_net_node.twins.Given as goal
 
 abbrev pub invariant-loop-place : goal.invariant-loop-place

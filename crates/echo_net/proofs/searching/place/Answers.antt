@@ -1,5 +1,4 @@
-use Rattle.std.proofs.Common.{◌∙◌, ap}
-use Rattle.std.specs.Ordering.{is_eq}
+use Rattle.std.{proofs.Common.{◌∙◌, ap}, specs.Ordering.is_eq}
 use Rattle.echo_net.proofs.Orders.{searched_place}
 use Rattle.echo_net.proofs.searching.place.Goals as goal
 

@@ -1,7 +1,5 @@
-use Rattle.std.proofs.Common.{◌≡◌, [], ◌∷◌, ◌++◌, ◌*◌, ◌/◌, ◌%◌, ◌^◌, sym, ap, subst, ◌∙◌}
-use Rattle.std.specs.Int.Bits.{bit_xor}
-use Rattle.echo_nodelist.specs.Crc.{crc}
-use Rattle.echo_nodelist.proofs.Registers.{crc-push}
+use Rattle.std.{proofs.Common.{◌≡◌, [], ◌∷◌, ◌++◌, ◌*◌, ◌/◌, ◌%◌, ◌^◌, sym, ap, subst, ◌∙◌}, specs.Int.Bits.bit_xor}
+use Rattle.echo_nodelist.{specs.Crc.crc, proofs.Registers.crc-push}
 use Rattle.echo_nodelist.proofs.crc.with_byte.Goals as goal
 
 pub returns : goal.returns

@@ -1,5 +1,4 @@
-use Rattle.std.proofs.{Common.◌/◌, Common.◌%◌, Common.◌^◌, Common.ℕ, Common.get_or, Common.sym, Common.◌∙◌, Common.arith, lemmas.Nat.xor_of_8}
-use Rattle.std.specs.Int.Bits.{bit_xor}
+use Rattle.std.{proofs.{Common.{◌/◌, ◌%◌, ◌^◌, ℕ, get_or, sym, ◌∙◌, arith}, lemmas.Nat.xor_of_8}, specs.Int.Bits.bit_xor}
 use Rattle.echo_nodelist.proofs.{EightBytes.crc_eight, EightBytes.xor_same, Registers.table_entry}
 use Rattle.echo_nodelist.proofs.crc.with_eight.Goals as goal
 

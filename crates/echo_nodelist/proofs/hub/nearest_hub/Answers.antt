@@ -1,6 +1,5 @@
 use Rattle.std.proofs.Common.{◌≡◌, ◌-◌, ◌+◌, reverse, take, sym, ap, ◌∙◌, arith}
-use Rattle.echo_nodelist.specs.Back.{nearest_hub}
-use Rattle.echo_nodelist.proofs.Hubs.{as_many, hub_found}
+use Rattle.echo_nodelist.{specs.Back.nearest_hub, proofs.Hubs.{as_many, hub_found}}
 use Rattle.echo_nodelist.proofs.hub.nearest_hub.Goals as goal
 
 pub bounds-addresses-n : goal.bounds-addresses-n

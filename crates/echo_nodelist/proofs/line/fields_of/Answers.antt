@@ -1,7 +1,5 @@
-use Rattle.std.proofs.Common.{◌++◌, ◌∷◌, [], ap, ◌∙◌, refl}
-use Rattle.std.specs.List.{slice_split}
-use Rattle.echo_nodelist.specs.Raw.{is_comma}
-use Rattle.echo_nodelist.proofs.Pieces.{fields_all, fields_more}
+use Rattle.std.{proofs.Common.{◌++◌, ◌∷◌, [], ap, ◌∙◌, refl}, specs.List.slice_split}
+use Rattle.echo_nodelist.{specs.Raw.is_comma, proofs.Pieces.{fields_all, fields_more}}
 use Rattle.echo_nodelist.proofs.line.fields_of.Goals as goal
 
 pub fields-preserved : goal.fields-preserved

@@ -1,5 +1,4 @@
-use Rattle.std.proofs.Common.{◌≡◌, ◌++◌, length}
-use Rattle.std.specs.List.{slice_split}
+use Rattle.std.{proofs.Common.{◌≡◌, ◌++◌, length}, specs.List.slice_split}
 use Rattle.echo_nodelist.specs.Raw.{is_comma}
 use Rattle.echo_nodelist.proofs.line.fields_of.Given as goal
 

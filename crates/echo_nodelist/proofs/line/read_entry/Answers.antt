@@ -1,7 +1,6 @@
-use Rattle.std.proofs.Common.{◌≡◌, ◌∷◌, refl, sym, inr, ap, ◌∙◌, arith, Ok}
+use Rattle.std.{proofs.Common.{◌≡◌, ◌∷◌, refl, sym, inr, ap, ◌∙◌, arith, Ok}, specs.List.slice_split}
 use Rattle.echo_nodelist.specs.{declared.line.Line.TheVariants.Entry, Raw.is_comma}
 use Rattle.echo_nodelist.proofs.{Entries.an_entry, Entries.few_fields, Entries.field_cut, Entries.no_keyword, Entries.no_number, Entries.one_field, Entries.two_fields, line.read_entry.Goals.After-len}
-use Rattle.std.specs.List.{slice_split}
 use Rattle.echo_nodelist.proofs.line.read_entry.Goals as goal
 
 first : (c : After-len) → slice_split is_comma c.args.bytes.now ≡ c.in-Some.word.now ∷ slice_split is_comma c.in-Some.rest.now

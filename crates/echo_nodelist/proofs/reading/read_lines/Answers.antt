@@ -1,5 +1,4 @@
-use Rattle.std.proofs.Common.{◌≡◌, ◌+◌, [], ◌∷◌, length, sym, ap, ◌∙◌, subst, arith}
-use Rattle.std.proofs.lemmas.{List.length-append, Bool.eqb-true}
+use Rattle.std.proofs.{Common.{◌≡◌, ◌+◌, [], ◌∷◌, length, sym, ap, ◌∙◌, subst, arith}, lemmas.{List.length-append, Bool.eqb-true}}
 use Rattle.echo_nodelist.proofs.OneMoreLine.{Done, done_all, done_more}
 use Rattle.echo_nodelist.proofs.reading.read_lines.Goals as goal
 

@@ -1,6 +1,5 @@
 use Rattle.std.proofs.Common.{◌+◌, ◌≤◌, length}
-use Rattle.echo_nodelist.specs.Reading.{IsInStep}
-use Rattle.echo_nodelist.proofs.OneMoreLine.{Done}
+use Rattle.echo_nodelist.{specs.Reading.IsInStep, proofs.OneMoreLine.Done}
 use Rattle.echo_nodelist.proofs.reading.read_lines.Given as goal
 
 abbrev pub invariant-lines : goal.invariant-lines

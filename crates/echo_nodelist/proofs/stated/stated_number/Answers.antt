@@ -1,7 +1,5 @@
-use Rattle.std.proofs.Common.{◌≡◌, ◌≤◌, length, drop, ap, ◌∙◌, subst, arith}
-use Rattle.std.specs.{Prelude.IfSome, Str.Parse.digits_value}
-use Rattle.echo_nodelist.specs.CrcLine.{last_five}
-use Rattle.echo_nodelist.proofs.StatedNumber.{five_digits}
+use Rattle.std.{proofs.Common.{◌≡◌, ◌≤◌, length, drop, ap, ◌∙◌, subst, arith}, specs.{Prelude.IfSome, Str.Parse.digits_value}}
+use Rattle.echo_nodelist.{specs.CrcLine.last_five, proofs.StatedNumber.five_digits}
 use Rattle.echo_nodelist.proofs.stated.stated_number.Goals as goal
 
 pub returns-clause-value : goal.returns-clause-value

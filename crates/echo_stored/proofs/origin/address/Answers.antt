@@ -1,5 +1,4 @@
-use Rattle.std.proofs.Common.{ap, ◌∙◌}
-use Rattle.std.specs.Result.{result_ok}
+use Rattle.std.{proofs.Common.{ap, ◌∙◌}, specs.Result.result_ok}
 use Rattle.echo_stored.proofs.Parsed.{parsed}
 use Rattle.echo_stored.proofs.origin.address.Goals as goal
 

@@ -1,5 +1,4 @@
-use Rattle.std.proofs.Common.{◌-◌, arith, drop, length, length-drop}
-use Rattle.std.proofs.lemmas.List.{take_all}
+use Rattle.std.proofs.{Common.{◌-◌, arith, drop, length, length-drop}, lemmas.List.take_all}
 use Rattle.echo_stored.proofs.reading.behind_numbers.Goals as goal
 
 pub returns : goal.returns

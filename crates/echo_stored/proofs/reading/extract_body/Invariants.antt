@@ -1,5 +1,4 @@
-use Rattle.std.proofs.Common.{◌≡◌, ◌++◌, length}
-use Rattle.std.specs.List.{flat_map}
+use Rattle.std.{proofs.Common.{◌≡◌, ◌++◌, length}, specs.List.flat_map}
 use Rattle.echo_text.specs.Lines.{lines}
 use Rattle.echo_stored.specs.StoredReading.{own_line}
 use Rattle.echo_stored.proofs.reading.extract_body.Given as goal

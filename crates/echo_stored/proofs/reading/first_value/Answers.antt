@@ -1,6 +1,5 @@
 use Rattle.std.proofs.{Common.ap, Common.length, Common.sym, Common.◌∙◌, lemmas.Bool.eqb-true}
-use Rattle.echo_text.specs.Echo.{first_after}
-use Rattle.echo_text.proofs.TextLines.{no_lines}
+use Rattle.echo_text.{specs.Echo.first_after, proofs.TextLines.no_lines}
 use Rattle.echo_stored.proofs.reading.first_value.Goals as goal
 
 pub returns : goal.returns

@@ -1,8 +1,6 @@
-use Rattle.std.proofs.Common.{◌≡◌, ap, subst, ◌++◌, ◌∙◌}
-use Rattle.std.proofs.lemmas.Result.{on_ok_weaker}
+use Rattle.std.proofs.{Common.{◌≡◌, ap, subst, ◌++◌, ◌∙◌}, lemmas.Result.on_ok_weaker}
 use Rattle.echo_filed.specs.Filed.{Filed}
-use Rattle.echo_stored.specs.StoredMessage.{padded, stored_front}
-use Rattle.echo_stored.proofs.Joins.{joined}
+use Rattle.echo_stored.{specs.StoredMessage.{padded, stored_front}, proofs.Joins.joined}
 use Rattle.echo_stored.proofs.stored.push_front.Goals as goal
 
 pub returns : goal.returns

@@ -1,5 +1,4 @@
-use Rattle.std.proofs.Common.{◌-◌, ◌++◌, ◌∙◌, ap, arith, length}
-use Rattle.std.proofs.lemmas.{List.take-replicate, Result.on_ok_weaker}
+use Rattle.std.proofs.{Common.{◌-◌, ◌++◌, ◌∙◌, ap, arith, length}, lemmas.{List.take-replicate, Result.on_ok_weaker}}
 use Rattle.echo_stored.proofs.Joins.{joined}
 use Rattle.echo_stored.proofs.stored.push_padded.Goals as goal
 

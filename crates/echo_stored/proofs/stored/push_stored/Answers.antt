@@ -1,8 +1,7 @@
 use Rattle.std.proofs.{Common.ℕ, Common.ap, Common.◌++◌, Common.◌∙◌, lemmas.Result.on_ok_weaker}
 use Rattle.echo_addr.specs.declared.address.Address.{Address}
 use Rattle.echo_filed.specs.Filed.{Filed}
-use Rattle.echo_stored.specs.StoredMessage.{attribute_of, stored_address, stored_front, stored_numbers, text_behind}
-use Rattle.echo_stored.proofs.Joins.{joined}
+use Rattle.echo_stored.{specs.StoredMessage.{attribute_of, stored_address, stored_front, stored_numbers, text_behind}, proofs.Joins.joined}
 use Rattle.echo_stored.proofs.stored.push_stored.Goals as goal
 
 pub returns : goal.returns

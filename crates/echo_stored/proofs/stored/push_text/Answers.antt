@@ -1,5 +1,4 @@
-use Rattle.std.proofs.Common.{◌+◌, ◌++◌, ◌∙◌, ap, arith, drop, length}
-use Rattle.std.proofs.lemmas.Result.{on_ok_weaker}
+use Rattle.std.proofs.{Common.{◌+◌, ◌++◌, ◌∙◌, ap, arith, drop, length}, lemmas.Result.on_ok_weaker}
 use Rattle.echo_stored.proofs.Behind.{behind, longer}
 use Rattle.echo_stored.proofs.stored.push_text.Goals as goal
 

@@ -1,7 +1,5 @@
-use Rattle.std.proofs.Common.{◌∙◌, ◌<◌, ◌+◌, [], ◌∷◌, List, ap, arith, drop, length, sym}
-use Rattle.std.proofs.lemmas.List.{drop_more}
-use Rattle.echo_toss.specs.{Counts.counted_with, Exports.OutgoingMessage}
-use Rattle.echo_toss.proofs.Counts.{more_twice}
+use Rattle.std.proofs.{Common.{◌∙◌, ◌<◌, ◌+◌, [], ◌∷◌, List, ap, arith, drop, length, sym}, lemmas.List.drop_more}
+use Rattle.echo_toss.{specs.{Counts.counted_with, Exports.OutgoingMessage}, proofs.Counts.more_twice}
 use Rattle.echo_toss.proofs.counting.count_copies.Goals as goal
 
 pub sent-preserved : goal.sent-preserved

@@ -1,7 +1,6 @@
 use Rattle.std.proofs.Common.{◌≡◌, sym, subst, [], refl, None, arith}
 use Rattle.echo_filed.specs.Filed.{IsFiled}
-use Rattle.model_steps.specs.Posting.{posted}
-use Rattle.model_steps.proofs.Kept.{posted_filed}
+use Rattle.model_steps.{specs.Posting.posted, proofs.Kept.posted_filed}
 use Rattle.echo_toss.proofs.{Drafted.posted_is, Judged.draft_allowed}
 use Rattle.echo_toss.proofs.drafting.posted.Goals as goal
 

@@ -1,7 +1,6 @@
 use Rattle.std.proofs.{Common.◌++◌, Common.List, Common.ap, Common.arith, Common.drop, Common.sym, lemmas.Result.err_from_is_err_and}
 use Rattle.base_store.proofs.Runs.{looks_twice, no_look}
-use Rattle.echo_toss.specs.Exports.{OutgoingMessage, is_sent, outgoing_of, sent_of}
-use Rattle.echo_toss.proofs.{Exports.next_waits, Bounds.full_looked, Bounds.handed_many}
+use Rattle.echo_toss.{specs.Exports.{OutgoingMessage, is_sent, outgoing_of, sent_of}, proofs.{Exports.next_waits, Bounds.{full_looked, handed_many}}}
 use Rattle.echo_toss.proofs.grouping.gather_group.Goals as goal
 
 pub group-init : goal.group-init

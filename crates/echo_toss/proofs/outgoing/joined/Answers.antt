@@ -1,5 +1,4 @@
-use Rattle.std.proofs.Common.{◌≡◌, ◌∷◌, [], ◌++◌, List, map, take, ap, ◌∙◌}
-use Rattle.std.proofs.lemmas.List.{take_all}
+use Rattle.std.proofs.{Common.{◌≡◌, ◌∷◌, [], ◌++◌, List, map, take, ap, ◌∙◌}, lemmas.List.take_all}
 use Rattle.echo_addr.specs.{declared.address.Address.Address, declared.address.NetNode.NetNode, Address.net_node_of}
 use Rattle.echo_filed.specs.Sets.{entry_set}
 use Rattle.echo_toss.proofs.AscendingSets.{entries_twice}

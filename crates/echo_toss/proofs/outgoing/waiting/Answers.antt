@@ -1,7 +1,6 @@
 use Rattle.std.proofs.{Common.sym, Common.arith, lemmas.Result.err_from_is_err_and}
 use Rattle.base_store.proofs.Runs.{looks_twice}
-use Rattle.echo_toss.specs.Exports.{is_sent, outgoing_of}
-use Rattle.echo_toss.proofs.{Exports.next_waits, Bounds.full_looked, Bounds.handed_many}
+use Rattle.echo_toss.{specs.Exports.{is_sent, outgoing_of}, proofs.{Exports.next_waits, Bounds.{full_looked, handed_many}}}
 use Rattle.echo_toss.proofs.outgoing.waiting.Goals as goal
 
 pub waiting-preserved : goal.waiting-preserved

@@ -1,6 +1,5 @@
 use Rattle.std.proofs.Common.{[], refl, arith}
-use Rattle.echo_toss.specs.{Tallies.tally_of, PacketsIn.state_in}
-use Rattle.echo_toss.proofs.{Stops.tossed_part, PacketsIn.tossed_all, PacketsIn.tossed_none}
+use Rattle.echo_toss.{specs.{Tallies.tally_of, PacketsIn.state_in}, proofs.{Stops.tossed_part, PacketsIn.{tossed_all, tossed_none}}}
 use Rattle.echo_toss.proofs.packets.toss_packet.Goals as goal
 
 pub returns-in-Ok-toss_messages-clause-tossed : goal.returns-in-Ok-toss_messages-clause-tossed

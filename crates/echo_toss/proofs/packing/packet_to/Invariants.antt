@@ -1,5 +1,4 @@
-use Rattle.std.proofs.Common.{◌≡◌, ◌++◌, map, drop}
-use Rattle.std.specs.Prelude.{filter}
+use Rattle.std.{proofs.Common.{◌≡◌, ◌++◌, map, drop}, specs.Prelude.filter}
 use Rattle.echo_toss.specs.Exports.{copy_out, goes_out}
 use Rattle.echo_toss.proofs.packing.packet_to.Given as goal
 

@@ -1,5 +1,4 @@
-use Rattle.std.proofs.Common.{◌≡◌, ◌++◌, drop}
-use Rattle.std.specs.List.{flat_map}
+use Rattle.std.{proofs.Common.{◌≡◌, ◌++◌, drop}, specs.List.flat_map}
 use Rattle.echo_filed.specs.Sets.{address_set}
 use Rattle.echo_toss.proofs.packing.recipients.Given as goal
 

@@ -1,5 +1,4 @@
-use Rattle.std.proofs.{Common.sym, Common.ap, Common.◌∙◌, Common.arith, lemmas.Result.err_from_is_err_and}
-use Rattle.std.specs.List.{list_any}
+use Rattle.std.{proofs.{Common.{sym, ap, ◌∙◌, arith}, lemmas.Result.err_from_is_err_and}, specs.List.list_any}
 use Rattle.echo_text.specs.Ids.{id_of}
 use Rattle.echo_filed.specs.Filed.{has_id}
 use Rattle.echo_toss.proofs.Judged.{draft_passes, draft_refused, memory_fault, prepared}

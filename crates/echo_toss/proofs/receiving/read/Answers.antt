@@ -1,7 +1,6 @@
 use Rattle.std.proofs.Common.{sym, subst, ap, ◌∙◌, List, ℕ, arith}
 use Rattle.echo_text.specs.Echo.{FrontOf}
-use Rattle.echo_toss.specs.Wanted.{refused_by}
-use Rattle.echo_toss.proofs.Tossed.{bad_tag, link_refused, no_echo, refused_text}
+use Rattle.echo_toss.{specs.Wanted.refused_by, proofs.Tossed.{bad_tag, link_refused, no_echo, refused_text}}
 use Rattle.echo_toss.proofs.receiving.read.Goals as goal
 
 pub returns-in-Err-NotEcho : goal.returns-in-Err-NotEcho

@@ -1,8 +1,6 @@
 use Rattle.std.proofs.Common.{◌≡◌, ℕ, List, subst, ◌∙◌, Some, arith}
-use Rattle.echo_text.specs.Echo.{EchoOf}
-use Rattle.echo_text.proofs.SaidAfter.{front_accepted}
-use Rattle.model_steps.specs.Tossing.{received}
-use Rattle.model_steps.proofs.Kept.{received_filed}
+use Rattle.echo_text.{specs.Echo.EchoOf, proofs.SaidAfter.front_accepted}
+use Rattle.model_steps.{specs.Tossing.received, proofs.Kept.received_filed}
 use Rattle.echo_toss.proofs.Tossed.{made_received}
 use Rattle.echo_toss.proofs.receiving.received.Goals as goal
 

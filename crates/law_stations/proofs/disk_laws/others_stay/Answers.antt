@@ -1,5 +1,4 @@
-use Rattle.law_stations.specs.Scans.{with_packets_in}
-use Rattle.law_stations.proofs.Neighbours.{others-stay}
+use Rattle.law_stations.{specs.Scans.with_packets_in, proofs.Neighbours.others-stay}
 use Rattle.law_stations.proofs.disk_laws.others_stay.Goals as goal
 
 pub returns-clause-command : goal.returns-clause-command

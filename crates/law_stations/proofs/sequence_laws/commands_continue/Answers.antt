@@ -1,5 +1,4 @@
-use Rattle.law_stations.specs.Seats.{either}
-use Rattle.law_stations.proofs.GoingOn.{commands-go-on}
+use Rattle.law_stations.{specs.Seats.either, proofs.GoingOn.commands-go-on}
 use Rattle.law_stations.proofs.sequence_laws.commands_continue.Goals as goal
 
 pub returns : goal.returns

@@ -1,5 +1,4 @@
-use Rattle.law_stations.specs.Seats.{either}
-use Rattle.law_stations.proofs.Sequence.{headline-from-any-sequences}
+use Rattle.law_stations.{specs.Seats.either, proofs.Sequence.headline-from-any-sequences}
 use Rattle.law_stations.proofs.sequence_laws.new_messages_are_in_order_over_sequences.Goals as goal
 
 pub returns : goal.returns

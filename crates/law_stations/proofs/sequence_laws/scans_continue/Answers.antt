@@ -1,5 +1,4 @@
-use Rattle.law_stations.specs.Seats.{either}
-use Rattle.law_stations.proofs.ScanSteps.{scans-go-on}
+use Rattle.law_stations.{specs.Seats.either, proofs.ScanSteps.scans-go-on}
 use Rattle.law_stations.proofs.sequence_laws.scans_continue.Goals as goal
 
 pub returns : goal.returns

@@ -1,5 +1,4 @@
-use Rattle.law_stations.specs.Seats.{either}
-use Rattle.law_stations.proofs.Sequence.{sequences-are-among}
+use Rattle.law_stations.{specs.Seats.either, proofs.Sequence.sequences-are-among}
 use Rattle.law_stations.proofs.sequence_laws.sequences_are_among.Goals as goal
 
 pub returns : goal.returns

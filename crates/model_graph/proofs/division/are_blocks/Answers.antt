@@ -1,6 +1,5 @@
 use Rattle.std.proofs.{Common.length, Common.refl, Common.below_more, Common.arith, lemmas.Bool.both_ways, lemmas.Bool.false≢true}
-use Rattle.model_graph.specs.{Rows.linked, Blocks.block_of, Blocks.top_of, Blocks.rank_of, Blocks.IsInBlock}
-use Rattle.model_graph.proofs.Rows.{AreBlocks-from_each}
+use Rattle.model_graph.{specs.{Rows.linked, Blocks.{block_of, top_of, rank_of, IsInBlock}}, proofs.Rows.AreBlocks-from_each}
 use Rattle.model_graph.proofs.division.are_blocks.Goals as goal
 
 pub returns-then-not-is_in_block-clause-blocks : goal.returns-then-not-is_in_block-clause-blocks

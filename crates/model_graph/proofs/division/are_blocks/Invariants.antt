@@ -3,5 +3,4 @@ use Rattle.model_graph.specs.{Rows.linked, Blocks.block_of, Blocks.top_of, Block
 use Rattle.model_graph.proofs.division.are_blocks.Given as goal
 
 abbrev pub invariant-members : goal.invariant-members
-invariant-members l =
-    (x : ℕ) → x < l.member → IsInBlock (linked l.graph) (length l.graph) (block_of l.blocks) (top_of l.blocks) (rank_of l.blocks) x
+invariant-members l = (x : ℕ) → x < l.member → IsInBlock (linked l.graph) (length l.graph) (block_of l.blocks) (top_of l.blocks) (rank_of l.blocks) x

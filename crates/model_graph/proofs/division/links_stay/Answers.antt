@@ -1,6 +1,5 @@
 use Rattle.std.proofs.Common.{refl, arith}
-use Rattle.model_graph.specs.Blocks.{block_of, top_of, InOneBlock}
-use Rattle.model_graph.proofs.PinchSearch.{for_each_link}
+use Rattle.model_graph.{specs.Blocks.{block_of, top_of, InOneBlock}, proofs.PinchSearch.for_each_link}
 use Rattle.model_graph.proofs.division.links_stay.Goals as goal
 
 pub returns : goal.returns

@@ -1,7 +1,6 @@
 use Rattle.std.proofs.Common.{◌≡◌, ◌<◌, ℕ, Bool, false, IsTrue, List, length, get_or, refl, sym, ap, ◌∙◌, subst, ◌+◌, arith}
 use Rattle.std.proofs.lemmas.{Bool.false≢true, List.get_or_read, List.get_or_past, List.length-set}
-use Rattle.model_graph.specs.{Rows.linked, Blocks.block_of, Blocks.top_of, Blocks.IsFullyLinked}
-use Rattle.model_graph.proofs.Rows.{marked_more, unmarked, kept_marks}
+use Rattle.model_graph.{specs.{Rows.linked, Blocks.{block_of, top_of, IsFullyLinked}}, proofs.Rows.{marked_more, unmarked, kept_marks}}
 use Rattle.model_graph.proofs.fullness.full_blocks.Goals.{then-block-members+then-index+then-not-is_fully_linked, else-block-members}
 use Rattle.model_graph.proofs.fullness.full_blocks.Goals as goal
 

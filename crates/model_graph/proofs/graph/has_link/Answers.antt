@@ -1,6 +1,5 @@
-use Rattle.std.proofs.Common.{◌≡◌, ◌<◌, ◌≤◌, ◌==◌, ℕ, List, length, get_or, Result, is_ok, MatchResult, ◌∙◌, arith}
+use Rattle.std.{proofs.Common.{◌≡◌, ◌<◌, ◌≤◌, ◌==◌, ℕ, List, length, get_or, Result, is_ok, MatchResult, ◌∙◌, arith}, specs.List.list_any}
 use Rattle.std.proofs.lemmas.{List.Sorted.searched, Bool.cases_Bool, Bool.cases_lt}
-use Rattle.std.specs.List.{list_any}
 use Rattle.model_graph.proofs.Rows.{holds_at, place_of, rising}
 use Rattle.model_graph.proofs.graph.has_link.Goals as goal
 

@@ -1,7 +1,5 @@
-use Rattle.std.proofs.Common.{◌≡◌, ◌<◌, ◌≤◌, ℕ, Bool, Option, Some, List, length, get_or, sym, ◌∙◌, ap, arith}
-use Rattle.std.proofs.lemmas.{List.get_or_read, Option.same_Some}
-use Rattle.model_graph.specs.{Rows.linked, Levels.level_of, Floods.Flooding}
-use Rattle.model_graph.proofs.Floods.{level_within, Flooding-step}
+use Rattle.std.proofs.{Common.{◌≡◌, ◌<◌, ◌≤◌, ℕ, Bool, Option, Some, List, length, get_or, sym, ◌∙◌, ap, arith}, lemmas.{List.get_or_read, Option.same_Some}}
+use Rattle.model_graph.{specs.{Rows.linked, Levels.level_of, Floods.Flooding}, proofs.Floods.{level_within, Flooding-step}}
 use Rattle.model_graph.proofs.levels.flood.Goals as goal
 
 at_head : (links : ℕ → ℕ → Bool) (without root : ℕ) (old levels : List (Option ℕ)) (queue : List ℕ) (head member : ℕ) → Flooding links without root old levels queue head → head < length queue → member ≡ get_or queue head member → (m : ℕ) × (level_of levels member ≡ Some m) × (m ≤ head) × (get_or queue head 0 ≡ member)

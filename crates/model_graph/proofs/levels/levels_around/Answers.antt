@@ -1,7 +1,5 @@
-use Rattle.std.proofs.Common.{◌≡◌, ℕ, None, replicate, rules, arith}
-use Rattle.std.proofs.lemmas.{List.get_or-replicate, List.get_or_past, List.length-replicate, Bool.cases_lt}
-use Rattle.model_graph.specs.Levels.{level_of}
-use Rattle.model_graph.proofs.Floods.{AreLevels-from_flooded, Searched-from_flooded}
+use Rattle.std.proofs.{Common.{◌≡◌, ℕ, None, replicate, rules, arith}, lemmas.{List.{get_or-replicate, get_or_past, length-replicate}, Bool.cases_lt}}
+use Rattle.model_graph.{specs.Levels.level_of, proofs.Floods.{AreLevels-from_flooded, Searched-from_flooded}}
 use Rattle.model_graph.proofs.levels.levels_around.Goals as goal
 
 none_in : (n i : ℕ) → level_of (replicate n None) i ≡ None

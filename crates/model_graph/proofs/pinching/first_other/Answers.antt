@@ -1,5 +1,4 @@
-use Rattle.std.proofs.Common.{ℕ, List, get_or, arith, below_more}
-use Rattle.std.proofs.lemmas.Bool.{both_ways}
+use Rattle.std.proofs.{Common.{ℕ, List, get_or, arith, below_more}, lemmas.Bool.both_ways}
 use Rattle.model_graph.proofs.PinchSearch.{FirstOther-here, not_pinch_here, no_pinch_in_row, row_link}
 use Rattle.model_graph.proofs.pinching.first_other.Goals as goal
 

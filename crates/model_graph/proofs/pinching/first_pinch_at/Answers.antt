@@ -1,5 +1,4 @@
-use Rattle.std.proofs.Common.{ℕ, List, length, get_or, sym, ◌∙◌, arith, below_more}
-use Rattle.std.proofs.lemmas.{Bool.ltb-true, Option.MatchOption-at_some, Option.MatchOption-at_none}
+use Rattle.std.proofs.{Common.{ℕ, List, length, get_or, sym, ◌∙◌, arith, below_more}, lemmas.{Bool.ltb-true, Option.{MatchOption-at_some, MatchOption-at_none}}}
 use Rattle.model_graph.specs.{Rows.linked, Pinches.IsPinch, Blocks.block_of, Blocks.top_of, Blocks.rank_of}
 use Rattle.model_graph.proofs.{PinchSearch.FirstHere-here, PinchSearch.no_pinch_at, PinchSearch.row_link, PinchSearch.Simple-from_graph, BlockWalks.no_pinch_covered}
 use Rattle.model_graph.proofs.pinching.first_pinch_at.Goals.{then-chosen-at, else-chosen-at}

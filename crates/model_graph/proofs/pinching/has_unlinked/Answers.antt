@@ -1,6 +1,5 @@
 use Rattle.std.proofs.{Common.◌<◌, Common.IsTrue, Common.arith, lemmas.Bool.false≢true}
-use Rattle.model_graph.specs.{Rows.linked, Blocks.block_of, Blocks.top_of, Blocks.OnOneSide}
-use Rattle.model_graph.proofs.PinchSearch.{for_each_link}
+use Rattle.model_graph.{specs.{Rows.linked, Blocks.{block_of, top_of, OnOneSide}}, proofs.PinchSearch.for_each_link}
 use Rattle.model_graph.proofs.pinching.has_unlinked.Goals as goal
 
 pub returns : goal.returns

@@ -1,5 +1,4 @@
-use Rattle.std.proofs.Common.{ℕ, Bool, Option, Some, None, MatchOption, ◌≡◌, ◌∙◌, refl}
-use Rattle.std.proofs.lemmas.Option.{MatchOption-at_some}
+use Rattle.std.proofs.{Common.{ℕ, Bool, Option, Some, None, MatchOption, ◌≡◌, ◌∙◌, refl}, lemmas.Option.MatchOption-at_some}
 use Rattle.model_graph.specs.{declared.pinching.Pinch.Pinch, Rows.linked, Pinches.IsPinch, Pinches.FirstPinch}
 use Rattle.model_graph.proofs.{Cycles.Polygons-from_Parted, Members.ℕ-can_tell, PinchSearch.Simple-from_graph, PinchSearch.Parted-from_no_pinch, Rings.NamedLoop-written}
 use Rattle.model_graph.proofs.polygons.find_loop.Goals as goal

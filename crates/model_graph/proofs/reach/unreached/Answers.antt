@@ -1,6 +1,5 @@
 use Rattle.std.proofs.Common.{◌≡◌, ◌≢◌, ◌<◌, ℕ, Option, List, length, subst, arith, MatchOption, None}
-use Rattle.model_graph.specs.{Rows.linked, Levels.level_of, Levels.AreLevels}
-use Rattle.model_graph.proofs.PinchSearch.{answered}
+use Rattle.model_graph.{specs.{Rows.linked, Levels.{level_of, AreLevels}}, proofs.PinchSearch.answered}
 use Rattle.model_graph.proofs.reach.unreached.Goals as goal
 
 pub returns : goal.returns

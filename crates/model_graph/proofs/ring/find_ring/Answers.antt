@@ -1,5 +1,4 @@
-use Rattle.std.proofs.Common.{◌≡◌, ◌≢◌, ◌-◌, ◌<◌, ℕ, suc, Option, Some, None, IsSome, List, length, refl, sym, ◌∙◌, subst, arith}
-use Rattle.std.proofs.lemmas.List.{get_or_read}
+use Rattle.std.proofs.{Common.{◌≡◌, ◌≢◌, ◌-◌, ◌<◌, ℕ, suc, Option, Some, None, IsSome, List, length, refl, sym, ◌∙◌, subst, arith}, lemmas.List.get_or_read}
 use Rattle.model_graph.specs.{Rows.linked, Rows.IsGraph, Levels.level_of, Levels.AreLevels, Pinches.IsPinch, Descents.SmallestAt}
 use Rattle.model_graph.proofs.{Members.Around-sym, Floods.level_cases, Floods.level_within, PinchSearch.Simple-from_graph, PinchSearch.level_from_around}
 use Rattle.model_graph.proofs.Descending.{Descent-push, lower_exists, FirstWalk-from_descent}

@@ -1,6 +1,5 @@
 use Rattle.std.proofs.Common.{ℕ, List, get_or, ◌∙◌, ap, arith}
-use Rattle.model_graph.specs.Levels.{level_of}
-use Rattle.model_graph.proofs.{PinchSearch.row_link, PinchSearch.row_place, Descending.SmallestAt-here}
+use Rattle.model_graph.{specs.Levels.level_of, proofs.{PinchSearch.{row_link, row_place}, Descending.SmallestAt-here}}
 use Rattle.model_graph.proofs.ring.smallest_at.Goals as goal
 
 pub has_level-requires : goal.has_level-requires

@@ -1,6 +1,5 @@
 use Rattle.std.proofs.Common.{refl, arith}
-use Rattle.model_graph.specs.Rows.{Answered}
-use Rattle.model_graph.proofs.PinchSearch.{for_each_link}
+use Rattle.model_graph.{specs.Rows.Answered, proofs.PinchSearch.for_each_link}
 use Rattle.model_graph.proofs.sound.row_is_answered.Goals as goal
 
 pub returns : goal.returns

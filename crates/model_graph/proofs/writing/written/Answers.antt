@@ -1,7 +1,5 @@
-use Rattle.std.proofs.Common.{◌≡◌, ◌-◌, ◌<◌, ℕ, List, length, get_or, reverse, ◌∙◌, ap, arith}
-use Rattle.std.proofs.lemmas.List.{get_or_read}
-use Rattle.model_graph.specs.Loops.{turned}
-use Rattle.model_graph.proofs.Rings.{IsWritten-forth, IsWritten-back, length-turned}
+use Rattle.std.proofs.{Common.{◌≡◌, ◌-◌, ◌<◌, ℕ, List, length, get_or, reverse, ◌∙◌, ap, arith}, lemmas.List.get_or_read}
+use Rattle.model_graph.{specs.Loops.turned, proofs.Rings.{IsWritten-forth, IsWritten-back, length-turned}}
 use Rattle.model_graph.proofs.writing.written.Goals as goal
 
 read_at : (xs : List ℕ) (i x : ℕ) → i < length xs → x ≡ get_or xs i x → x ≡ get_or xs i 0

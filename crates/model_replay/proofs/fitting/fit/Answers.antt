@@ -1,5 +1,4 @@
-use Rattle.std.proofs.Common.{◌≡◌, ◌≤◌, ◌^◌, ◌<◌, ◌-◌, List, get_or, length, ap, subst, ◌∙◌, arith}
-use Rattle.std.proofs.lemmas.List.{take_all}
+use Rattle.std.proofs.{Common.{◌≡◌, ◌≤◌, ◌^◌, ◌<◌, ◌-◌, List, get_or, length, ap, subst, ◌∙◌, arith}, lemmas.List.take_all}
 use Rattle.echo_packet.specs.Message.{Message}
 use Rattle.model_replay.proofs.Sizes.{one_more_kept}
 use Rattle.model_replay.proofs.fitting.fit.Goals as goal

@@ -1,5 +1,4 @@
-use Rattle.std.proofs.Common.{◌^◌, ◌-◌, take}
-use Rattle.std.specs.List.{AllByRecursion}
+use Rattle.std.{proofs.Common.{◌^◌, ◌-◌, take}, specs.List.AllByRecursion}
 use Rattle.echo_packet.specs.Message.{IsMessage}
 use Rattle.model_replay.proofs.fitting.fit.Given as goal
 

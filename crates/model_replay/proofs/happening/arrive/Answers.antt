@@ -1,8 +1,7 @@
 use Rattle.std.proofs.Common.{◌≡◌, ◌<◌, ◌∙◌, Some, length, sym, ap, subst}
 use Rattle.model_steps.specs.SystemState.{SystemState}
 use Rattle.model_run.specs.Run.{destination, nth}
-use Rattle.model_replay.specs.Worlds.{Exported, WorldState, encoded}
-use Rattle.model_replay.proofs.Changes.{addresses_stay, arrived-set, read-nth}
+use Rattle.model_replay.{specs.Worlds.{Exported, WorldState, encoded}, proofs.Changes.{addresses_stay, arrived-set, read-nth}}
 use Rattle.model_replay.proofs.happening.arrive.Goals as goal
 
 pub returns-in_err-toss_at-clause-addresses : goal.returns-in_err-toss_at-clause-addresses

@@ -1,7 +1,6 @@
 use Rattle.std.proofs.{Common.false, Common.◌≡◌, Common.◌∙◌, Common.Some, Common.sym, Common.ap, Common.subst, lemmas.Result.on_ok_weaker}
 use Rattle.model_run.specs.Run.{destination, nth}
-use Rattle.model_replay.specs.Worlds.{Exported, WorldState, own_addresses, encoded}
-use Rattle.model_replay.proofs.{Changes.read-nth, Runs.led-nowhere, Runs.led-to}
+use Rattle.model_replay.{specs.Worlds.{Exported, WorldState, own_addresses, encoded}, proofs.{Changes.read-nth, Runs.{led-nowhere, led-to}}}
 use Rattle.model_replay.proofs.happening.deliver.Goals as goal
 
 pub returns-in-Some-clause-first : goal.returns-in-Some-clause-first

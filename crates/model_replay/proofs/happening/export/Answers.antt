@@ -1,5 +1,4 @@
-use Rattle.std.proofs.Common.{◌++◌, ◌∷◌, [], ◌∙◌, List, map, append_assoc, ap, sym}
-use Rattle.std.proofs.lemmas.List.{map-append, Elements.All-push}
+use Rattle.std.proofs.{Common.{◌++◌, ◌∷◌, [], ◌∙◌, List, map, append_assoc, ap, sym}, lemmas.List.{map-append, Elements.All-push}}
 use Rattle.model_replay.specs.Worlds.{Exported, Fits, made}
 use Rattle.model_replay.proofs.happening.export.Goals as goal
 

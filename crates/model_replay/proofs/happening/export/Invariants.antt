@@ -1,5 +1,4 @@
-use Rattle.std.proofs.Common.{◌≡◌, ◌++◌, map}
-use Rattle.std.specs.List.{All}
+use Rattle.std.{proofs.Common.{◌≡◌, ◌++◌, map}, specs.List.All}
 use Rattle.model_replay.specs.Worlds.{Fits, made}
 use Rattle.model_replay.proofs.happening.export.Given as goal
 

@@ -1,5 +1,4 @@
-use Rattle.std.proofs.{Common.◌≡◌, Common.◌∙◌, Common.List, Common.ℕ, Common.Result, Common.Ok, Common.Err, Common.sym, Common.ap, Common.subst, lemmas.Result.on_ok_weaker}
-use Rattle.std.specs.Prelude.{OnOk}
+use Rattle.std.{proofs.{Common.{◌≡◌, ◌∙◌, List, ℕ, Result, Ok, Err, sym, ap, subst}, lemmas.Result.on_ok_weaker}, specs.Prelude.OnOk}
 use Rattle.model_run.specs.{Event.run_event, declared.event.Event.Event, Run.Run, Run.after_event}
 use Rattle.model_run.specs.declared.event.Event.TheVariants as event
 use Rattle.model_replay.specs.Worlds.{IsWorldOf, WorldState, after_posting, with_change}

@@ -1,6 +1,5 @@
 use Rattle.std.proofs.{Common.◌<◌, Common.length, Common.arith, lemmas.Result.on_ok_weaker}
-use Rattle.model_replay.specs.Worlds.{after_posting}
-use Rattle.model_replay.proofs.Changes.{addresses_stay, with_past, with_set}
+use Rattle.model_replay.{specs.Worlds.after_posting, proofs.Changes.{addresses_stay, with_past, with_set}}
 use Rattle.model_replay.proofs.happening.post.Goals as goal
 
 pub returns-then-system-len-clause-posted : goal.returns-then-system-len-clause-posted

@@ -1,6 +1,5 @@
 use Rattle.std.proofs.{Common.◌<◌, Common.length, Common.arith, lemmas.Result.on_ok_weaker}
-use Rattle.model_replay.specs.Worlds.{after_purge}
-use Rattle.model_replay.proofs.Changes.{addresses_stay, with_past, with_set}
+use Rattle.model_replay.{specs.Worlds.after_purge, proofs.Changes.{addresses_stay, with_past, with_set}}
 use Rattle.model_replay.proofs.happening.purge.Goals as goal
 
 pub returns-then-system-len-clause-purged : goal.returns-then-system-len-clause-purged

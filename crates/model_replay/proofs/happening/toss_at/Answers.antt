@@ -1,10 +1,8 @@
-use Rattle.std.proofs.Common.{◌≡◌, ℕ, Bool, true, false, cond, List, [], refl, sym, subst, Ok, Some, arith}
-use Rattle.std.proofs.lemmas.List.{append-nil}
+use Rattle.std.proofs.{Common.{◌≡◌, ℕ, Bool, true, false, cond, List, [], refl, sym, subst, Ok, Some, arith}, lemmas.List.append-nil}
 use Rattle.model_steps.specs.{declared.packet.Packet.Packet, Tossing.destination_of}
 use Rattle.echo_links.specs.Links.{LinkFile}
 use Rattle.model_run.specs.Run.{destination}
-use Rattle.echo_toss.specs.PacketSteps.{PacketStep}
-use Rattle.echo_toss.proofs.WholePackets.{whole_packet}
+use Rattle.echo_toss.{specs.PacketSteps.PacketStep, proofs.WholePackets.whole_packet}
 use Rattle.echo_packet.specs.Packet.{PacketOf}
 use Rattle.model_replay.specs.Worlds.{unlimited}
 use Rattle.model_replay.proofs.happening.toss_at.Goals as goal

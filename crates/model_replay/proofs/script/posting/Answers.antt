@@ -1,7 +1,6 @@
 use Rattle.std.proofs.Common.{◌∙◌, ap, drop, sym, Option, Some, arith}
 use Rattle.model_run.specs.declared.event.Event.{Event, TheVariants.Post}
-use Rattle.model_replay.specs.Script.{draft_of, moment, posting_with, serial_in}
-use Rattle.model_replay.proofs.Words.{no_words, one_word, three_words, two_words}
+use Rattle.model_replay.{specs.Script.{draft_of, moment, posting_with, serial_in}, proofs.Words.{no_words, one_word, three_words, two_words}}
 use Rattle.model_replay.proofs.script.posting.Goals as goal
 
 pub returns-in_default : goal.returns-in_default

@@ -1,5 +1,4 @@
-use Rattle.std.proofs.Common.{◌≡◌, ◌≤◌, not, take}
-use Rattle.std.specs.Prelude.{count_by}
+use Rattle.std.{proofs.Common.{◌≡◌, ◌≤◌, not, take}, specs.Prelude.count_by}
 use Rattle.model_replay.proofs.world.count_missing.Given as goal
 
 abbrev pub invariant-packets : goal.invariant-packets

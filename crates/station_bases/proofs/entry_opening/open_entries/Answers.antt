@@ -1,5 +1,4 @@
-use Rattle.std.proofs.Common.{◌≡◌, ◌≤◌, ℕ, List, true, length, drop, Option, sym, subst, ◌∙◌, arith}
-use Rattle.std.specs.Prelude.{IsSome}
+use Rattle.std.{proofs.Common.{◌≡◌, ◌≤◌, ℕ, List, true, length, drop, Option, sym, subst, ◌∙◌, arith}, specs.Prelude.IsSome}
 use Rattle.base_file.specs.Pieces.{BeginsWith}
 use Rattle.disk_io.specs.Disk.{bytes_in}
 use Rattle.station_bases.specs.EntryOpening.{AreJudged, IsPartOf}

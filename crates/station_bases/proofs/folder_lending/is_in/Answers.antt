@@ -1,5 +1,4 @@
-use Rattle.std.proofs.lemmas.{Bool.Decides.Decides-eqb, Slice.Eq.strip_prefix_is}
-use Rattle.std.specs.Prelude.{None, Some}
+use Rattle.std.{proofs.lemmas.{Bool.Decides.Decides-eqb, Slice.Eq.strip_prefix_is}, specs.Prelude.{None, Some}}
 use Rattle.station_bases.proofs.FolderLent.{is_in_by, not_in}
 use Rattle.station_bases.proofs.folder_lending.is_in.Goals as goal
 

@@ -1,5 +1,4 @@
-use Rattle.std.proofs.{Common.arith, lemmas.Bool.Decides.Decides-eqb, lemmas.Slice.Eq.strip_prefix_is}
-use Rattle.std.specs.Prelude.{◌++◌, None, codes}
+use Rattle.std.{proofs.{Common.arith, lemmas.{Bool.Decides.Decides-eqb, Slice.Eq.strip_prefix_is}}, specs.Prelude.{◌++◌, None, codes}}
 use Rattle.station_bases.proofs.Lent.{prefix_by, prefix_none}
 use Rattle.station_bases.proofs.lending.is_ending.Goals as goal
 

@@ -1,5 +1,4 @@
-use Rattle.std.proofs.lemmas.{Bool.Decides.Decides-eqb, Slice.Eq.strip_suffix_is}
-use Rattle.std.specs.Prelude.{None, Some, codes}
+use Rattle.std.{proofs.lemmas.{Bool.Decides.Decides-eqb, Slice.Eq.strip_suffix_is}, specs.Prelude.{None, Some, codes}}
 use Rattle.station_bases.proofs.Lent.{suffix_by, suffix_none}
 use Rattle.station_bases.proofs.lending.is_new.Goals as goal
 

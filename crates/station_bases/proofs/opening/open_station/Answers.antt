@@ -1,5 +1,4 @@
-use Rattle.std.proofs.Common.{arith, inr, subst, sym}
-use Rattle.std.proofs.lemmas.Result.{err_from_is_err_and}
+use Rattle.std.proofs.{Common.{arith, inr, subst, sym}, lemmas.Result.err_from_is_err_and}
 use Rattle.echo_addr.specs.declared.address.Address.{Address}
 use Rattle.base_folder.specs.{Ours.IsOfOther, Unopened.IsOpenedFor, Wrong.IsSound}
 use Rattle.disk_io.specs.{Device.Failed, Disk.Files}

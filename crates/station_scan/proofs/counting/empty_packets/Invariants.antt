@@ -1,6 +1,5 @@
 -- The routes so far have their packets.
-use Rattle.std.proofs.Common.{◌≡◌, [], map, take}
-use Rattle.std.specs.Prelude.{All}
+use Rattle.std.{proofs.Common.{◌≡◌, [], map, take}, specs.Prelude.All}
 use Rattle.station_scan.specs.{Passing.IsCounted, declared.counting.LinkPacket.LinkPacket, declared.sending.Route.Route}
 use Rattle.station_scan.proofs.counting.empty_packets.Given as goal
 

@@ -1,5 +1,4 @@
-use Rattle.disk_atomic.specs.Outgoing.{IsAtStaging}
-use Rattle.disk_atomic.proofs.Changes.{then_only}
+use Rattle.disk_atomic.{specs.Outgoing.IsAtStaging, proofs.Changes.then_only}
 use Rattle.station_scan.proofs.ending.stage_packets.Goals as goal
 
 pub returns-in-Ok-drop_staging-clause-changes : goal.returns-in-Ok-drop_staging-clause-changes

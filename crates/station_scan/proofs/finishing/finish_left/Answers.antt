@@ -1,9 +1,6 @@
-use Rattle.std.proofs.Common.{◌≡◌, ◌∙◌, All, List, arith, get_or, subst, sym, vec_len}
-use Rattle.std.proofs.lemmas.{Bool.eqb-true, Result.err_from_is_err_and}
-use Rattle.disk_atomic.proofs.Changes.{only_nothing, then_only, wider}
-use Rattle.disk_atomic.specs.ListStaged.{AreListed}
-use Rattle.station_scan.specs.Left.{AreFound, EndsThese, IsStagingThere, IsOfNameOff, IsOfPaths}
-use Rattle.station_scan.specs.declared.finding.LeftPaths.{LeftPaths}
+use Rattle.std.proofs.{Common.{◌≡◌, ◌∙◌, All, List, arith, get_or, subst, sym, vec_len}, lemmas.{Bool.eqb-true, Result.err_from_is_err_and}}
+use Rattle.disk_atomic.{proofs.Changes.{only_nothing, then_only, wider}, specs.ListStaged.AreListed}
+use Rattle.station_scan.specs.{Left.{AreFound, EndsThese, IsStagingThere, IsOfNameOff, IsOfPaths}, declared.finding.LeftPaths.LeftPaths}
 use Rattle.station_scan.proofs.Lefts.{are_left_in, free_found, left_of_name, none_left, nothing_left, these_left}
 use Rattle.station_scan.proofs.finishing.finish_left.Goals as goal
 

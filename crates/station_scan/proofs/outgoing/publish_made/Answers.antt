@@ -1,5 +1,4 @@
-use Rattle.std.proofs.Common.{◌≡◌, ◌≢◌, ◌<◌, ◌∙◌, ⊎_elim, arith, inl, length, refl, sym}
-use Rattle.std.proofs.lemmas.Bool.{eqb-false, eqb-true}
+use Rattle.std.proofs.{Common.{◌≡◌, ◌≢◌, ◌<◌, ◌∙◌, ⊎_elim, arith, inl, length, refl, sym}, lemmas.Bool.{eqb-false, eqb-true}}
 use Rattle.disk_io.specs.Device.{Failed}
 use Rattle.station_scan.specs.{Passing.is_made, Passing.made_in, Publishing.IsGoingAt, Publishing.IsPublishedAt, Scanning.IsTouched}
 use Rattle.station_scan.proofs.{Grown.open_growing, Passes.for_made, Passes.made_going, Passes.made_touched, Published.store_wider, Sendings.sends_alone, Sendings.sends_none, Sendings.sends_published}

@@ -1,13 +1,11 @@
-use Rattle.std.proofs.Common.{◌≡◌, ◌≤◌, ◌∙◌, List, Result, Err, ap, arith, subst, sym}
-use Rattle.std.specs.{Prelude.IfErr, Prelude.IfOk, Prelude.Vec, declared.alloc.Global.Global}
+use Rattle.std.{proofs.Common.{◌≡◌, ◌≤◌, ◌∙◌, List, Result, Err, ap, arith, subst, sym}, specs.{Prelude.{IfErr, IfOk, Vec}, declared.alloc.Global.Global}}
 use Rattle.disk_io.specs.{Device.Failed, declared.disk_error.DiskError.DiskError}
 use Rattle.disk_io.specs.declared.disk_error.DiskError.TheVariants as disk
 use Rattle.base_store.specs.{Store.all_scanned, declared.store_error.StoreError.StoreError}
 use Rattle.base_store.specs.declared.store_error.StoreError.TheVariants as error
 use Rattle.cmd_status.specs.Devices.{output_of}
 use Rattle.station_scan.specs.{declared.counting.LinkPacket.LinkPacket, Moved.ScansFrom, Passing.HasPassed, Passing.IsStagingTo, Passing.StopsPassing, declared.publish_error.PublishError.PublishError}
-use Rattle.station_scan.specs.declared.publish_error.PublishError.TheVariants.{Base as OfBase, Packets, Reading, Staging}
-use Rattle.station_scan.specs.declared.scan_error.ScanError.{ScanError}
+use Rattle.station_scan.specs.declared.{publish_error.PublishError.TheVariants.{Base as OfBase, Packets, Reading, Staging}, scan_error.ScanError.ScanError}
 use Rattle.station.proofs.Failures.{failed_wider}
 use Rattle.disk_atomic.specs.declared.placing_error.PlacingError.{PlacingError}
 use Rattle.disk_atomic.specs.declared.placing_error.PlacingError.TheVariants as placing

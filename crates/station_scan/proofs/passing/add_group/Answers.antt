@@ -1,9 +1,7 @@
-use Rattle.std.proofs.Common.{◌≡◌, ◌≢◌, ◌<◌, ◌∙◌, ⊎_elim, List, Result, Err, ap, arith, length, map, refl, subst, sym}
+use Rattle.std.{proofs.Common.{◌≡◌, ◌≢◌, ◌<◌, ◌∙◌, ⊎_elim, List, Result, Err, ap, arith, length, map, refl, subst, sym}, specs.Prelude.{All, IsErrOf}}
 use Rattle.std.proofs.lemmas.{Result.err_from_is_err_and, Result.on_ok_weaker, Bool.eqb-false, Bool.eqb-true}
-use Rattle.std.specs.Prelude.{All, IsErrOf}
 use Rattle.disk_atomic.specs.declared.{outgoing.Outgoing.Outgoing, placing_error.PlacingError.PlacingError, placing_error.PlacingError.TheVariants.Taken}
-use Rattle.station_scan.specs.{Fitting.IsOff, Passing.begun_in, Passing.copied_in, Passing.with_group}
-use Rattle.station_scan.proofs.Published.{own_not_staging}
+use Rattle.station_scan.{specs.{Fitting.IsOff, Passing.{begun_in, copied_in, with_group}}, proofs.Published.own_not_staging}
 use Rattle.station_scan.proofs.Passes.{begun_going, copied_going, group_appending, group_making, group_staged, group_taken, group_unfit, none_making, none_staged, staged_none}
 use Rattle.station_scan.proofs.passing.add_group.Goals as goal
 

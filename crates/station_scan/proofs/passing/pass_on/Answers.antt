@@ -1,5 +1,4 @@
-use Rattle.std.proofs.{Common.ℕ, Common.arith, Common.refl, Common.subst, Common.sym, lemmas.Result.err_from_is_err_and}
-use Rattle.std.specs.Prelude.{IsErrOf}
+use Rattle.std.{proofs.{Common.{ℕ, arith, refl, subst, sym}, lemmas.Result.err_from_is_err_and}, specs.Prelude.IsErrOf}
 use Rattle.base_file.specs.Base.{Base}
 use Rattle.disk_io.specs.Disk.{Honestly}
 use Rattle.disk_atomic.specs.declared.placing_error.PlacingError.TheVariants.{Taken}

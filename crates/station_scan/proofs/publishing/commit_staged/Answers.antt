@@ -1,5 +1,4 @@
-use Rattle.std.proofs.{Common.Result, Common.arith, Common.subst, Common.sym, lemmas.Result.err_from_is_err_and}
-use Rattle.std.specs.Prelude.{IfErr}
+use Rattle.std.{proofs.{Common.{Result, arith, subst, sym}, lemmas.Result.err_from_is_err_and}, specs.Prelude.IfErr}
 use Rattle.station_scan.specs.{Publishing.StopsCommitting, declared.publish_error.PublishError.PublishError}
 use Rattle.station_scan.proofs.Published.{all_filled, apart_still, commits_still, naming, published_if, same_staged, staged_still}
 use Rattle.station_scan.proofs.publishing.commit_staged.Goals as goal

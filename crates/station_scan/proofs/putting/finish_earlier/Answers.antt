@@ -1,7 +1,6 @@
 use Rattle.std.proofs.{Common.List, Common.Result, Common.subst, Common.sym, lemmas.Result.err_from_is_err_and}
 use Rattle.disk_atomic.specs.{ListStaged.AreListed, declared.listing.StagedPacket.StagedPacket, declared.placing_error.PlacingError.PlacingError}
-use Rattle.station_scan.specs.Left.{EndsLeft, IsOfNameOff}
-use Rattle.station_scan.proofs.{Lefts.ends_for, Lefts.nothing_left, Lefts.quiet_start, Written.used_none}
+use Rattle.station_scan.{specs.Left.{EndsLeft, IsOfNameOff}, proofs.{Lefts.{ends_for, nothing_left, quiet_start}, Written.used_none}}
 use Rattle.station_scan.proofs.putting.finish_earlier.Goals as goal
 
 pub returns-in_err-listed-clause-used : goal.returns-in_err-listed-clause-used

@@ -1,10 +1,8 @@
-use Rattle.std.proofs.Common.{◌≡◌, ◌≤◌, ◌⊎◌, Err, arith, inl, inr, refl}
-use Rattle.std.proofs.lemmas.Result.{on_ok_weaker}
+use Rattle.std.proofs.{Common.{◌≡◌, ◌≤◌, ◌⊎◌, Err, arith, inl, inr, refl}, lemmas.Result.on_ok_weaker}
 use Rattle.disk_io.specs.Device.{Failed}
-use Rattle.station.proofs.{Failures.failed_wider, Ran.looks_of, Ran.looks_open, Ran.needs_held, Ran.stopped_on}
+use Rattle.station.{proofs.{Failures.failed_wider, Ran.{looks_of, looks_open, needs_held, stopped_on}}, specs.Opening.HaveFailed}
 use Rattle.cmd_store.specs.declared.command_error.CommandError.TheVariants.{Met}
 use Rattle.cmd_status.specs.Devices.{output_of}
-use Rattle.station.specs.Opening.{HaveFailed}
 use Rattle.station_scan.proofs.{Runs.scan_keeps, Runs.scanned_on, Stops.failed_too, Tries.scan_tries}
 use Rattle.station_scan.proofs.scanning.run_scan.Goals as goal
 

@@ -1,9 +1,7 @@
 use Rattle.std.proofs.Common.{◌≡◌, ◌≢◌, ◌⊎◌, ◌<◌, ◌∙◌, get_or, inl, inr, true, length, arith, refl, sym}
 use Rattle.std.proofs.lemmas.{Bool.eqb-false, Bool.eqb-true, Result.IfOk-weaker, List.get_or_default}
-use Rattle.disk_atomic.proofs.{Packets.nobody, Whole.some_is_there}
-use Rattle.disk_atomic.specs.{Trying.WasTried, Outgoing.IsAtStaging, Outgoing.staged_in}
-use Rattle.station_scan.specs.Publishing.{IsTriedWith}
-use Rattle.station_scan.proofs.Staged.{at_staging, first_other, first_staged, still_staged, tried_after, tried_changes}
+use Rattle.disk_atomic.{proofs.{Packets.nobody, Whole.some_is_there}, specs.{Trying.WasTried, Outgoing.{IsAtStaging, staged_in}}}
+use Rattle.station_scan.{specs.Publishing.IsTriedWith, proofs.Staged.{at_staging, first_other, first_staged, still_staged, tried_after, tried_changes}}
 use Rattle.station_scan.proofs.staging.try_first.Goals as goal
 
 pub try_link-requires-clause-can : goal.try_link-requires-clause-can

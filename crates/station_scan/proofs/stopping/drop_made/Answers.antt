@@ -1,5 +1,4 @@
-use Rattle.std.proofs.Common.{◌≡◌, ◌≢◌, ◌<◌, ◌∙◌, arith, length, refl, sym}
-use Rattle.std.proofs.lemmas.{Result.on_ok_weaker, Bool.eqb-false, Bool.eqb-true}
+use Rattle.std.proofs.{Common.{◌≡◌, ◌≢◌, ◌<◌, ◌∙◌, arith, length, refl, sym}, lemmas.{Result.on_ok_weaker, Bool.{eqb-false, eqb-true}}}
 use Rattle.station_scan.specs.Passing.{IsStagingTo, made_in}
 use Rattle.station_scan.proofs.{Published.own_not_staging, Passes.made_going, Passes.made_gone, Passes.made_nowhere, Passes.made_used, Written.used_none}
 use Rattle.station_scan.proofs.stopping.drop_made.Goals as goal

@@ -1,6 +1,5 @@
 use Rattle.std.proofs.Common.{◌∙◌, List, ℕ, ap, sym, subst}
-use Rattle.disk_io.specs.Disk.{bytes_in}
-use Rattle.disk_io.proofs.Moments.{nothing_twice}
+use Rattle.disk_io.{specs.Disk.bytes_in, proofs.Moments.nothing_twice}
 use Rattle.base_log.specs.{AtRest.IsAtRest, Names.log_of, Opening.AreAlone, Reading.IsLogIn, Standing.BaseBytes, Standing.Represents, Standing.base_at}
 use Rattle.base_log.proofs.{Empty.represented_quiet, Quiet.base_quiet}
 use Rattle.test_calls.proofs.bases.open_folder.Goals as goal

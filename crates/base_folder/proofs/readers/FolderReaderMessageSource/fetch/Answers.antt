@@ -1,8 +1,6 @@
-use Rattle.std.proofs.Common.{◌≡◌, ◌∙◌, ◌<◌, length, sym, arith}
-use Rattle.std.specs.Prelude.{slice_get}
+use Rattle.std.{proofs.Common.{◌≡◌, ◌∙◌, ◌<◌, length, sym, arith}, specs.Prelude.slice_get}
 use Rattle.echo_filed.specs.{Filed.Filed, Stored.message_in, declared.stored.Version.TheVariants.Second}
-use Rattle.base_folder_store.specs.Opened.{held_by}
-use Rattle.base_folder_store.proofs.{Causes.answers_error, Causes.on_ok_none, Seen.message_at}
+use Rattle.base_folder_store.{specs.Opened.held_by, proofs.{Causes.{answers_error, on_ok_none}, Seen.message_at}}
 use Rattle.base_folder.proofs.Readings.{looked_quiet, read_at, sees_quiet, vouched_quiet}
 use Rattle.base_folder.proofs.readers.FolderReaderMessageSource.fetch.Goals as goal
 

@@ -1,8 +1,6 @@
-use Rattle.std.proofs.Common.{List, ℕ, Result, subst, ◌≡◌, ◌∙◌, arith}
-use Rattle.std.proofs.lemmas.Result.{on_ok_weaker}
+use Rattle.std.proofs.{Common.{List, ℕ, Result, subst, ◌≡◌, ◌∙◌, arith}, lemmas.Result.on_ok_weaker}
 use Rattle.disk_io.specs.Disk.{DiskState, Honestly}
-use Rattle.base_log.specs.Moments.{LeavesOutside}
-use Rattle.base_log.proofs.LeftOutside.{left_twice}
+use Rattle.base_log.{specs.Moments.LeavesOutside, proofs.LeftOutside.left_twice}
 use Rattle.base_store.specs.declared.store_error.StoreError.{StoreError}
 use Rattle.base_folder_store.specs.{Calls.IsAcknowledged, Opened.committed_by, Opened.held_by, Opened.path_of, declared.folder.Folder.Folder}
 use Rattle.base_folder_store.proofs.Runs.{run_staged, run_to_commit, stays_twice}

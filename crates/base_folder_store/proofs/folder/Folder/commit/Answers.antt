@@ -1,7 +1,5 @@
-use Rattle.std.proofs.Common.{◌≢◌, ◌<◌, List, ℕ, subst, arith}
-use Rattle.std.proofs.lemmas.Result.{on_ok_weaker}
-use Rattle.base_log.specs.{Moments.LeavesOutside, Opening.AreGone}
-use Rattle.base_log.proofs.LeftOutside.{left_twice}
+use Rattle.std.proofs.{Common.{◌≢◌, ◌<◌, List, ℕ, subst, arith}, lemmas.Result.on_ok_weaker}
+use Rattle.base_log.{specs.{Moments.LeavesOutside, Opening.AreGone}, proofs.LeftOutside.left_twice}
 use Rattle.base_folder_store.specs.Opened.{committed_by, held_by, path_of}
 use Rattle.base_folder_store.proofs.{Beside.rest_held, Beside.rest_open, Causes.handed_on, Causes.on_ok_from, Runs.run_from_commit}
 use Rattle.base_folder_store.proofs.folder.Folder.commit.Goals as goal

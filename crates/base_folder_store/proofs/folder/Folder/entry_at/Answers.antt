@@ -1,6 +1,5 @@
 use Rattle.std.proofs.Common.{◌≡◌, ◌∙◌, Some, None, sym, arith}
-use Rattle.base_folder_store.specs.Opened.{held_by}
-use Rattle.base_folder_store.proofs.{Numbered.piece_held, folder.Folder.entry_at.Goals.in-Some, folder.Folder.entry_at.Goals.in-None}
+use Rattle.base_folder_store.{specs.Opened.held_by, proofs.{Numbered.piece_held, folder.Folder.entry_at.Goals.{in-Some, in-None}}}
 use Rattle.base_folder_store.proofs.folder.Folder.entry_at.Goals as goal
 
 pub returns-in_ok-from_slice-in-Some-held-clause-entry : goal.returns-in_ok-from_slice-in-Some-held-clause-entry

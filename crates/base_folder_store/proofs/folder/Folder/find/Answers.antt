@@ -1,5 +1,4 @@
-use Rattle.std.proofs.Common.{◌≡◌, Bool, arith}
-use Rattle.std.specs.List.{list_any}
+use Rattle.std.{proofs.Common.{◌≡◌, Bool, arith}, specs.List.list_any}
 use Rattle.disk_io.proofs.Moments.{nothing_twice}
 use Rattle.base_folder_store.proofs.{Bases.recorded_quiet, Causes.answers_whole, Cached.indexed_held, Legible.held_quiet, Legible.legible_quiet}
 use Rattle.base_folder_store.proofs.folder.Folder.find.Goals as goal

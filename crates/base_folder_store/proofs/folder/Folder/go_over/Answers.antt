@@ -1,8 +1,7 @@
 use Rattle.std.proofs.Common.{arith}
 use Rattle.disk_io.proofs.Moments.{nothing_twice}
 use Rattle.base_store.proofs.Runs.{quiet_disk}
-use Rattle.base_folder_store.specs.Opened.{held_by}
-use Rattle.base_folder_store.proofs.{Cached.indexed_held, Legible.held_quiet, Legible.legible_quiet}
+use Rattle.base_folder_store.{specs.Opened.held_by, proofs.{Cached.indexed_held, Legible.{held_quiet, legible_quiet}}}
 use Rattle.base_folder_store.proofs.folder.Folder.go_over.Goals as goal
 
 pub pieces-init : goal.pieces-init
@@ -22,8 +21,7 @@ returns-in_err-add_keys-clause-quiet g c =
     nothing_twice (g.D.Disk.state c.args.disk.now) (g.D.Disk.state c.pieces.disk) (g.D.Disk.state c.add_keys.new.disk) c.pieces.invariant.quiet c.add_keys.ensures.quiet
 
 pub returns-clause-indexed : goal.returns-clause-indexed
-returns-clause-indexed g c honest =
-    c.chain.ensures.index (held_by (g.D.Disk.state c.args.disk.now) c.args.self.now).keys (c.pieces.invariant.indexed honest)
+returns-clause-indexed g c honest = c.chain.ensures.index (held_by (g.D.Disk.state c.args.disk.now) c.args.self.now).keys (c.pieces.invariant.indexed honest)
 
 pub returns-clause-covered : goal.returns-clause-covered
 returns-clause-covered g c honest = grind arith

@@ -1,18 +1,15 @@
 use Rattle.std.proofs.Common.{◌≡◌, ◌<◌, ◌≤◌, ◌+◌, ◌/◌, ℕ, List, nat_lt, not, ◌&&◌, length, get_or, refl, sym, ap, subst, ◌∙◌, arith, below_more, lt-ltb}
 use Rattle.disk_io.specs.Disk.{DiskState}
 use Rattle.echo_filed.specs.{Filed.Filed, Stored.Stored, Stored.message_in, Stored.stored_bytes, declared.stored.Version.TheVariants.Second, Stubs.is_stub}
-use Rattle.base_log.specs.{Standing.BaseBytes, declared.log.End.End}
-use Rattle.base_log.proofs.Quiet.{base_quiet}
+use Rattle.base_log.{specs.{Standing.BaseBytes, declared.log.End.End}, proofs.Quiet.base_quiet}
 use Rattle.base_file.specs.{Alone.IsStoredAlone, Base.Base}
-use Rattle.base_store.specs.Keys.{HasBytesOf, AreWhereRecorded, digest_at}
+use Rattle.base_store.{specs.Keys.{HasBytesOf, AreWhereRecorded, digest_at}, proofs.Causes.failed_since}
 use Rattle.base_folder_store.specs.{Answers.IsStoredOf, Calls.StagesOnly, Held.HoldsBase, Left.HoldsLeft, Left.IsLeftOf, Left.AreLegible, Left.IsLegibleAt, Left.IsPurgedTo, Left.left_if, Vouched.AreBytesAt}
 use Rattle.base_folder_store.specs.{Opened.committed_by, Opened.held_by, Opened.path_of, declared.folder.Folder.Folder, declared.leaving.PurgedBytes.PurgedBytes, declared.reading.StoredBytes.StoredBytes}
 use Rattle.base_folder_store.proofs.Beside.{committed_others, many_readable, readable_others, readable_held, readable_quiet, recorded_readable}
 use Rattle.base_folder_store.proofs.{Bases.open_quiet, Bases.recorded_where, Causes.handed_on, Causes.purge_cause, Fits.room_left, Fits.shorter_more}
 use Rattle.base_folder_store.proofs.{Legible.held_quiet, Legible.keys_all, Legible.legible_open, Legible.messages_all, Looked.some_message, Runs.run_quiet, Runs.run_twice, Stated.not_damaged}
-use Rattle.base_folder_store.proofs.Stubbed.{IsBelow, changed_step, is_below, left_more}
-use Rattle.base_folder_store.proofs.folder.Folder.leave_next.Goals.{After-stored, After-stage_left}
-use Rattle.base_store.proofs.Causes.{failed_since}
+use Rattle.base_folder_store.proofs.{Stubbed.{IsBelow, changed_step, is_below, left_more}, folder.Folder.leave_next.Goals.{After-stored, After-stage_left}}
 use Rattle.base_folder_store.proofs.folder.Folder.leave_next.Given as given
 use Rattle.base_folder_store.proofs.folder.Folder.leave_next.Goals as goal
 

@@ -1,8 +1,7 @@
 use Rattle.std.proofs.Common.{◌≡◌, List, ℕ, refl, sym, subst, arith}
 use Rattle.base_log.specs.{AtRest.IsAtRest, Moments.KeepsOutside, Opening.AreAlone, Reading.IsLogIn, Standing.Represents, Standing.base_at}
 use Rattle.base_store.proofs.Runs.{quiet_disk}
-use Rattle.base_folder_store.specs.declared.folder.Folder.{Folder}
-use Rattle.base_folder_store.proofs.Bases.{opened_bytes, opened_is}
+use Rattle.base_folder_store.{specs.declared.folder.Folder.Folder, proofs.Bases.{opened_bytes, opened_is}}
 use Rattle.base_folder_store.proofs.folder.Folder.open.Goals as goal
 
 pub open-requires-clause-alone : goal.open-requires-clause-alone

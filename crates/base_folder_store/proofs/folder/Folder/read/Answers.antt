@@ -1,5 +1,4 @@
-use Rattle.std.proofs.Common.{◌≡◌, ◌-◌, ◌/◌, ◌∙◌, Some, length, min, refl, subst, sym, arith}
-use Rattle.std.specs.Prelude.{slice_get}
+use Rattle.std.{proofs.Common.{◌≡◌, ◌-◌, ◌/◌, ◌∙◌, Some, length, min, refl, subst, sym, arith}, specs.Prelude.slice_get}
 use Rattle.base_log.specs.{Names.keys_of, Standing.BaseBytes}
 use Rattle.base_store.specs.Keys.{HasBytesOf, IsPieceOf}
 use Rattle.echo_filed.specs.{Filed.Filed, Stored.message_in, declared.stored.Version.TheVariants.Second}

@@ -1,8 +1,7 @@
 use Rattle.std.proofs.Common.{◌≡◌, ◌∙◌, length, refl, arith}
 use Rattle.base_log.specs.Names.{messages_of}
 use Rattle.echo_filed.specs.{Stored.message_in, Stored.stored_bytes, declared.stored.Version.TheVariants.Second}
-use Rattle.base_folder_store.specs.{Ahead.IsPartOf, Opened.held_by, Opened.path_of}
-use Rattle.base_folder_store.proofs.{Ahead.part_kept, Legible.messages_all}
+use Rattle.base_folder_store.{specs.{Ahead.IsPartOf, Opened.{held_by, path_of}}, proofs.{Ahead.part_kept, Legible.messages_all}}
 use Rattle.base_folder_store.proofs.folder.Folder.read_by.Goals as goal
 
 pub returns-then-at-written-clause-read : goal.returns-then-at-written-clause-read

@@ -1,7 +1,6 @@
 use Rattle.std.proofs.Common.{◌≡◌, ◌*◌, ℕ, List, ◌++◌, take, drop, arith}
 use Rattle.disk_io.specs.Disk.{DiskState, bytes_in}
-use Rattle.base_folder_store.specs.{Opened.IsLegible, Opened.held_by, declared.folder.Folder.Folder}
-use Rattle.base_folder_store.proofs.{Legible.keys_all, Numbered.piece_of}
+use Rattle.base_folder_store.{specs.{Opened.{IsLegible, held_by}, declared.folder.Folder.Folder}, proofs.{Legible.keys_all, Numbered.piece_of}}
 use Rattle.base_folder_store.proofs.folder.Folder.read_keys.Goals as goal
 
 part_of : (d : DiskState) (f : Folder) (path waits piece : List ℕ) (from to : ℕ) → IsLegible d f → path ≡ f.names.keys.items → waits ≡ f.waiting.keys.items

@@ -1,11 +1,9 @@
-use Rattle.std.proofs.Common.{◌≡◌, ◌∙◌, ℕ, List, refl, sym, ap, arith}
-use Rattle.std.proofs.lemmas.Bool.{true≢false}
+use Rattle.std.proofs.{Common.{◌≡◌, ◌∙◌, ℕ, List, refl, sym, ap, arith}, lemmas.Bool.true≢false}
 use Rattle.base_file.specs.Alone.{IsStoredAlone}
 use Rattle.base_store.specs.Keys.{digested}
 use Rattle.echo_filed.specs.{Filed.Filed, Stored.Stored, Stored.message_in, Stored.stored_bytes, declared.stored.Version.TheVariants.Second}
-use Rattle.base_folder_store.specs.{Held.digest_by, Opened.held_by, Vouched.IsThere}
+use Rattle.base_folder_store.{specs.{Held.digest_by, Opened.held_by, Vouched.IsThere}, proofs.{Causes.answers_error, Vouchings.bytes_there}}
 use Rattle.base_log.specs.Standing.{BaseBytes}
-use Rattle.base_folder_store.proofs.{Causes.answers_error, Vouchings.bytes_there}
 use Rattle.base_folder_store.proofs.folder.Folder.read_vouched.Goals as goal
 
 alone_there : (held : BaseBytes) (i : ℕ) (s : Stored) (bytes file : List ℕ) → IsThere held i s → file ≡ bytes → bytes ≡ stored_bytes Second s → IsStoredAlone (message_in Second s) file

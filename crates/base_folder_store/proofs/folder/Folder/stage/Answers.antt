@@ -1,9 +1,7 @@
-use Rattle.std.proofs.Common.{◌≡◌, ◌<◌, ◌^◌, length, sym, subst, arith}
-use Rattle.std.proofs.lemmas.Result.{on_ok_weaker}
+use Rattle.std.proofs.{Common.{◌≡◌, ◌<◌, ◌^◌, length, sym, subst, arith}, lemmas.Result.on_ok_weaker}
 use Rattle.base_log.specs.Standing.{BaseBytes}
-use Rattle.base_folder_store.specs.Opened.{IsNamed, committed_by, held_by, path_of}
+use Rattle.base_folder_store.{specs.Opened.{IsNamed, committed_by, held_by, path_of}, proofs.folder.Folder.stage.Goals.After-add}
 use Rattle.base_folder_store.proofs.{Causes.on_ok_none, Runs.run_none, Runs.run_twice, Staged.added_fits, Staged.added_open, Staged.added_stored, Staged.names_kept}
-use Rattle.base_folder_store.proofs.folder.Folder.stage.Goals.{After-add}
 use Rattle.base_folder_store.proofs.folder.Folder.stage.Given as given
 use Rattle.base_folder_store.proofs.folder.Folder.stage.Goals as goal
 

@@ -1,7 +1,6 @@
 use Rattle.std.proofs.Common.{ℕ, refl, sym, subst}
 use Rattle.base_log.specs.Names.{AreNames}
-use Rattle.base_folder_store.specs.{Opened.IsWritten, declared.folder.Folder.Folder}
-use Rattle.base_folder_store.proofs.Staged.{out_held, out_open}
+use Rattle.base_folder_store.{specs.{Opened.IsWritten, declared.folder.Folder.Folder}, proofs.Staged.{out_held, out_open}}
 use Rattle.base_folder_store.proofs.folder.Folder.write_out.Goals as goal
 
 pub returns-clause-stays : goal.returns-clause-stays

@@ -1,6 +1,5 @@
 use Rattle.std.proofs.Common.{arith}
-use Rattle.base_folder_store.proofs.Claimed.{IsClaim, claim_commits, claim_goes_on, claim_cached, claim_keeps}
-use Rattle.base_folder_store.proofs.WhereSo.{goes_where, nothing_where}
+use Rattle.base_folder_store.proofs.{Claimed.{IsClaim, claim_commits, claim_goes_on, claim_cached, claim_keeps}, WhereSo.{goes_where, nothing_where}}
 use Rattle.base_folder_store.proofs.folder_store.FolderStore.claim.Goals as goal
 
 pub returns-clause-keeps : goal.returns-clause-keeps

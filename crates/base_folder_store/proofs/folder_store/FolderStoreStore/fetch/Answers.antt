@@ -1,6 +1,4 @@
-use Rattle.std.proofs.Common.{◌≡◌, inl, Some, sym, true, arith}
-use Rattle.std.proofs.lemmas.Result.{err_from_is_err_and}
-use Rattle.std.specs.Prelude.{slice_get}
+use Rattle.std.{proofs.{Common.{◌≡◌, inl, Some, sym, true, arith}, lemmas.Result.err_from_is_err_and}, specs.Prelude.slice_get}
 use Rattle.base_file.specs.Base.{Base}
 use Rattle.echo_filed.specs.Filed.{Filed}
 use Rattle.base_folder_store.specs.{State.IsCached, State.state_of, State.where_so, Opened.held_by}

@@ -1,9 +1,8 @@
 use Rattle.std.proofs.Common.{List, ℕ, subst, sym, arith}
 use Rattle.base_store.proofs.Runs.{looks_commit, no_look}
 use Rattle.base_file.specs.Alone.{IsStoredAlone}
-use Rattle.base_folder_store.specs.{Opened.held_by, State.IsCached, State.state_of, State.where_so}
+use Rattle.base_folder_store.{specs.{Opened.held_by, State.{IsCached, state_of, where_so}}, proofs.WhereSo.{goes_on_where, nothing_where}}
 use Rattle.base_folder_store.proofs.{Causes.at_error, Causes.done_both, Causes.handed_on, Cached.cached_more, Seen.filed_more, Stated.stages, Stated.went_on}
-use Rattle.base_folder_store.proofs.WhereSo.{goes_on_where, nothing_where}
 use Rattle.base_folder_store.proofs.folder_store.FolderStoreStore.file.Goals as goal
 
 pub returns-in_err-bytes-clause-commits : goal.returns-in_err-bytes-clause-commits

@@ -1,5 +1,4 @@
-use Rattle.std.proofs.Common.{◌≡◌, inl, Bool, arith}
-use Rattle.std.specs.List.{list_any}
+use Rattle.std.{proofs.Common.{◌≡◌, inl, Bool, arith}, specs.List.list_any}
 use Rattle.echo_filed.specs.Filed.{has_id}
 use Rattle.base_file.specs.Base.{Base}
 use Rattle.base_folder_store.specs.{Opened.held_by, State.IsCached, State.state_of, State.where_so}

@@ -1,8 +1,6 @@
 use Rattle.std.proofs.Common.{sym, subst}
-use Rattle.base_store.specs.Store.{all_scanned}
-use Rattle.base_store.proofs.Runs.{quiet_disk}
-use Rattle.base_folder_store.specs.{Held.HoldsBase, Opened.held_by, declared.folder.Folder.Folder}
-use Rattle.base_folder_store.proofs.Seen.{end_holds}
+use Rattle.base_store.{specs.Store.all_scanned, proofs.Runs.quiet_disk}
+use Rattle.base_folder_store.{specs.{Held.HoldsBase, Opened.held_by, declared.folder.Folder.Folder}, proofs.Seen.end_holds}
 use Rattle.base_folder_store.proofs.folder_store.FolderStoreStore.move_to_end.Goals as goal
 
 pub returns-clause-moved : goal.returns-clause-moved

@@ -1,5 +1,4 @@
-use Rattle.base_store.specs.Chains.{AreChains}
-use Rattle.base_store.proofs.Indexed.{IsReached}
+use Rattle.base_store.{specs.Chains.AreChains, proofs.Indexed.IsReached}
 use Rattle.base_store.proofs.chains.Chains.find_chained.Given as goal
 
 abbrev pub invariant-chain : goal.invariant-chain

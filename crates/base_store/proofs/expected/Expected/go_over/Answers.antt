@@ -1,6 +1,5 @@
 use Rattle.std.proofs.Common.{◌≡◌, ◌+◌, ◌/◌, Bool, List, length, true, refl, sym, subst}
-use Rattle.base_store.specs.{Expected.are_set, Keys.digest_at, declared.expected.Expected.Expected}
-use Rattle.base_store.proofs.Found.{found_more, found_some}
+use Rattle.base_store.{specs.{Expected.are_set, Keys.digest_at, declared.expected.Expected.Expected}, proofs.Found.{found_more, found_some}}
 use Rattle.base_store.proofs.expected.Expected.go_over.Goals as goal
 
 pub returns-in_err-find_all-clause-found : goal.returns-in_err-find_all-clause-found

@@ -1,7 +1,5 @@
-use Rattle.std.proofs.Common.{◌≡◌, ◌/◌, true, length, sym, ◌∙◌, arith}
-use Rattle.std.proofs.lemmas.Bool.{cond-false, cond-true}
-use Rattle.base_store.specs.{Expected.is_expected, Index.covered}
-use Rattle.base_store.proofs.{Found.kept_more, Found.taken_size, index.Index.add_keys.Goals.After-extend_from_slice}
+use Rattle.std.proofs.{Common.{◌≡◌, ◌/◌, true, length, sym, ◌∙◌, arith}, lemmas.Bool.{cond-false, cond-true}}
+use Rattle.base_store.{specs.{Expected.is_expected, Index.covered}, proofs.{Found.{kept_more, taken_size}, index.Index.add_keys.Goals.After-extend_from_slice}}
 use Rattle.base_store.proofs.index.Index.add_keys.Goals as goal
 
 pub returns-then-has-clause-index : goal.returns-then-has-clause-index

@@ -1,5 +1,4 @@
-use Rattle.std.proofs.Common.{◌≡◌, ◌≢◌, ◌<◌, ◌/◌, ℕ, List, length, sym, ap, subst, ◌∙◌, arith}
-use Rattle.std.proofs.lemmas.Bool.{cond-false}
+use Rattle.std.proofs.{Common.{◌≡◌, ◌≢◌, ◌<◌, ◌/◌, ℕ, List, length, sym, ap, subst, ◌∙◌, arith}, lemmas.Bool.cond-false}
 use Rattle.base_store.specs.{Chains.AreChains, Index.IsIndexOf, Index.covered, Keys.digest_at, declared.index.Index.Index}
 use Rattle.base_store.proofs.{Found.none_map, Found.own_digest, Found.some_map, index.Index.find_below.Goals.After-find_below-2}
 use Rattle.base_store.proofs.index.Index.find_below.Goals as goal

@@ -1,5 +1,4 @@
-use Rattle.std.proofs.{Common.map, Common.sym, lemmas.List.Sorted.IsPermutation-map, lemmas.List.Sorted.list_any-IsPermutation}
-use Rattle.std.specs.Prelude.{bytes_eq}
+use Rattle.std.{proofs.{Common.{map, sym}, lemmas.List.Sorted.{IsPermutation-map, list_any-IsPermutation}}, specs.Prelude.bytes_eq}
 use Rattle.cmd_repair.proofs.Searching.{sorted_bytes}
 use Rattle.cmd_repair.proofs.known.KnownIds.of.Goals as goal
 

@@ -1,6 +1,4 @@
-use Rattle.std.proofs.Common.{◌≡◌, ℕ, List, true, ◌∙◌, sym}
-use Rattle.std.proofs.lemmas.Str.{utf8_lossy-IsUtf8}
-use Rattle.std.specs.Str.{IsUtf8}
+use Rattle.std.{proofs.{Common.{◌≡◌, ℕ, List, true, ◌∙◌, sym}, lemmas.Str.utf8_lossy-IsUtf8}, specs.Str.IsUtf8}
 use Rattle.echo_charset.specs.{declared.charset.Charset.Charset, Charset.decoded_text, Charset.is_utf8}
 use Rattle.echo_charset.proofs.charset.Charset.bytes_of.Goals as goal
 

@@ -1,5 +1,4 @@
-use Rattle.std.proofs.Common.{◌≡◌, ◌++◌}
-use Rattle.std.specs.Str.{IsUtf8, chars, encode_utf8_all}
+use Rattle.std.{proofs.Common.{◌≡◌, ◌++◌}, specs.Str.{IsUtf8, chars, encode_utf8_all}}
 use Rattle.echo_charset.specs.Charset.{characters}
 use Rattle.echo_charset.proofs.charset.Charset.single_bytes.Given as goal
 

@@ -1,9 +1,6 @@
-use Rattle.std.proofs.Common.{◌∙◌, arith, inr, subst, sym}
-use Rattle.std.proofs.lemmas.Bool.{not-false, not-true}
-use Rattle.std.specs.{List.list_any, Ordering.is_eq}
+use Rattle.std.{proofs.{Common.{◌∙◌, arith, inr, subst, sym}, lemmas.Bool.{not-false, not-true}}, specs.{List.list_any, Ordering.is_eq}}
 use Rattle.echo_addr.specs.Entries.{tokens}
-use Rattle.echo_links.specs.Found.{HaveTheSame, address_order}
-use Rattle.echo_links.proofs.LinkLoops.{LinksRead, links_again, links_bad, links_done, links_more}
+use Rattle.echo_links.{specs.Found.{HaveTheSame, address_order}, proofs.LinkLoops.{LinksRead, links_again, links_bad, links_done, links_more}}
 use Rattle.echo_links.proofs.Found.{link_found}
 use Rattle.echo_links.proofs.link_file.addresses.links_in.Goals as goal
 

@@ -1,7 +1,6 @@
 use Rattle.std.proofs.Common.{length}
 use Rattle.echo_addr.specs.Entries.{tokens}
-use Rattle.echo_links.specs.Found.{HaveTheSame}
-use Rattle.echo_links.proofs.LinkLoops.{LinksRead}
+use Rattle.echo_links.{specs.Found.HaveTheSame, proofs.LinkLoops.LinksRead}
 use Rattle.echo_links.proofs.link_file.addresses.links_in.Given as goal
 
 abbrev pub invariant-links : goal.invariant-links

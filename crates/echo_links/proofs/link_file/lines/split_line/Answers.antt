@@ -1,5 +1,4 @@
-use Rattle.std.proofs.Common.{◌+◌, ◌-◌, arith, drop, length, take, ◌∙◌}
-use Rattle.std.proofs.lemmas.List.{drop_all, take_rest}
+use Rattle.std.proofs.{Common.{◌+◌, ◌-◌, arith, drop, length, take, ◌∙◌}, lemmas.List.{drop_all, take_rest}}
 use Rattle.echo_links.proofs.LinkBytes.{line_ended, line_unended}
 use Rattle.echo_links.proofs.link_file.lines.split_line.Goals as goal
 

@@ -1,6 +1,5 @@
 use Rattle.std.proofs.Common.{List, map}
-use Rattle.echo_net.specs.declared.link.Link.{Link}
-use Rattle.echo_net.proofs.{Drawings.held_again, Listers.run_ends}
+use Rattle.echo_net.{specs.declared.link.Link.Link, proofs.{Drawings.held_again, Listers.run_ends}}
 use Rattle.echo_net.proofs.listing.Listing.listers.Goals as goal
 
 pub returns-clause-members : goal.returns-clause-members

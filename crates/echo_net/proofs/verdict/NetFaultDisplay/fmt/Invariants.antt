@@ -1,5 +1,4 @@
-use Rattle.std.proofs.Common.{take}
-use Rattle.std.specs.{List.flat_map, Fmt.HasWritten, Fmt.IsPlainFormatter}
+use Rattle.std.{proofs.Common.take, specs.{List.flat_map, Fmt.{HasWritten, IsPlainFormatter}}}
 use Rattle.echo_net.specs.Printed.{after_blank}
 use Rattle.echo_net.proofs.verdict.NetFaultDisplay.fmt.Given as goal
 

@@ -1,6 +1,5 @@
 use Rattle.std.proofs.Common.{subst, ◌∙◌}
-use Rattle.echo_nodelist.specs.Back.{Finds}
-use Rattle.echo_nodelist.proofs.LookingBack.{finds_first}
+use Rattle.echo_nodelist.{specs.Back.Finds, proofs.LookingBack.finds_first}
 use Rattle.echo_nodelist.proofs.nodelist.Nodelist.find.Goals as goal
 
 pub returns : goal.returns

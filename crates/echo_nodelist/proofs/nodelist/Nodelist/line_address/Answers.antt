@@ -1,6 +1,5 @@
 use Rattle.std.proofs.Common.{get_or, None, ap, ◌∙◌}
-use Rattle.echo_nodelist.specs.Back.{address_at, address_back}
-use Rattle.echo_nodelist.proofs.LookingBack.{kept_at}
+use Rattle.echo_nodelist.{specs.Back.{address_at, address_back}, proofs.LookingBack.kept_at}
 use Rattle.echo_nodelist.proofs.nodelist.Nodelist.line_address.Goals as goal
 
 pub returns : goal.returns

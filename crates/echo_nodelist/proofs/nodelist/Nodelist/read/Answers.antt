@@ -1,6 +1,5 @@
 use Rattle.std.proofs.Common.{reverse, subst}
-use Rattle.echo_nodelist.specs.{Raw.lines_of, Nodelist.AreRead}
-use Rattle.echo_nodelist.proofs.Clean.{good_lines}
+use Rattle.echo_nodelist.{specs.{Raw.lines_of, Nodelist.AreRead}, proofs.Clean.good_lines}
 use Rattle.echo_nodelist.proofs.nodelist.Nodelist.read.Goals as goal
 
 pub invariant_of-result : goal.invariant_of-result

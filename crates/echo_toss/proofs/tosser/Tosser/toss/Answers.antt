@@ -1,7 +1,6 @@
 use Rattle.std.proofs.Common.{refl, subst}
 use Rattle.model_steps.specs.SystemState.{SystemState}
-use Rattle.echo_toss.specs.{PacketSteps.PacketStep, PacketsIn.state_in}
-use Rattle.echo_toss.proofs.{PacketsIn.tossed_at, tosser.Tosser.toss.Goals.in-Ok, tosser.Tosser.toss.Goals.in-Err}
+use Rattle.echo_toss.{specs.{PacketSteps.PacketStep, PacketsIn.state_in}, proofs.{PacketsIn.tossed_at, tosser.Tosser.toss.Goals.{in-Ok, in-Err}}}
 use Rattle.echo_toss.proofs.tosser.Tosser.toss.Goals as goal
 
 pub returns-clause-tossed : goal.returns-clause-tossed

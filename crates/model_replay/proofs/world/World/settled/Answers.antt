@@ -1,8 +1,6 @@
-use Rattle.std.proofs.Common.{◌==◌, ◌&&◌, ap, sym, ◌∙◌, not, List, length}
-use Rattle.std.specs.{Prelude.count_by, Prelude.nat_le, List.list_all}
+use Rattle.std.{proofs.Common.{◌==◌, ◌&&◌, ap, sym, ◌∙◌, not, List, length}, specs.{Prelude.{count_by, nat_le}, List.list_all}}
 use Rattle.model_steps.specs.SystemState.{SystemState}
-use Rattle.model_replay.specs.Worlds.{Exported, WorldState}
-use Rattle.model_replay.proofs.Readings.{settled-is}
+use Rattle.model_replay.{specs.Worlds.{Exported, WorldState}, proofs.Readings.settled-is}
 use Rattle.model_replay.proofs.world.World.settled.Goals as goal
 
 pub returns-then-all_scanned : goal.returns-then-all_scanned

@@ -1,7 +1,5 @@
-use Rattle.std.proofs.Common.{ap, ◌∙◌, not, List}
-use Rattle.std.specs.Prelude.{count_by}
-use Rattle.model_replay.specs.Worlds.{Exported, WorldState}
-use Rattle.model_replay.proofs.Readings.{missing-is}
+use Rattle.std.{proofs.Common.{ap, ◌∙◌, not, List}, specs.Prelude.count_by}
+use Rattle.model_replay.{specs.Worlds.{Exported, WorldState}, proofs.Readings.missing-is}
 use Rattle.model_replay.proofs.world.World.undelivered.Goals as goal
 
 pub returns : goal.returns

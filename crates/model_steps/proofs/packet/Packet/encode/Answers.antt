@@ -1,5 +1,4 @@
-use Rattle.std.proofs.Common.{◌≡◌, ◌<◌, ◌-◌, List, get_or, length, ap, subst, ◌∙◌, arith, append_assoc}
-use Rattle.std.proofs.lemmas.List.{take_all}
+use Rattle.std.proofs.{Common.{◌≡◌, ◌<◌, ◌-◌, List, get_or, length, ap, subst, ◌∙◌, arith, append_assoc}, lemmas.List.take_all}
 use Rattle.disk_io.specs.Watched.{watched_device}
 use Rattle.echo_packet.specs.{Header.header_bytes, Message.Message, Writer.writer_below}
 use Rattle.model_steps.proofs.Encoding.{one_more_whole, one_more_written, written_packet}

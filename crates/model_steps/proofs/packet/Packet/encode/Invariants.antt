@@ -1,5 +1,4 @@
-use Rattle.std.proofs.Common.{◌≡◌, ◌++◌, false, length, take}
-use Rattle.std.specs.List.{AllByRecursion}
+use Rattle.std.{proofs.Common.{◌≡◌, ◌++◌, false, length, take}, specs.List.AllByRecursion}
 use Rattle.disk_io.specs.Watched.{watched_device}
 use Rattle.echo_packet.specs.{Header.header_bytes, Message.IsMessage, Message.messages_bytes, Writer.has_stopped, Writer.writer_below}
 use Rattle.model_steps.proofs.packet.Packet.encode.Given as goal

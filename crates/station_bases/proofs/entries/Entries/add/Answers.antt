@@ -1,7 +1,5 @@
-use Rattle.std.proofs.Common.{◌≡◌, ◌++◌, ℕ, List, length, ◌||◌, refl, sym, ap, subst, ◌∙◌, arith, length-append}
-use Rattle.std.proofs.lemmas.Bool.{or_parts}
-use Rattle.base_store.specs.{Chains.AreChains, Keys.entry}
-use Rattle.base_store.proofs.Indexed.{chains_stay}
+use Rattle.std.proofs.{Common.{◌≡◌, ◌++◌, ℕ, List, length, ◌||◌, refl, sym, ap, subst, ◌∙◌, arith, length-append}, lemmas.Bool.or_parts}
+use Rattle.base_store.{specs.{Chains.AreChains, Keys.entry}, proofs.Indexed.chains_stay}
 use Rattle.echo_filed.specs.{Stored.is_short, declared.stored.Version.TheVariants.Second}
 use Rattle.station_bases.proofs.EntryMore.{added}
 use Rattle.station_bases.proofs.entries.Entries.add.Goals as goal

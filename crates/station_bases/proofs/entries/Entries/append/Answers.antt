@@ -1,6 +1,5 @@
 use Rattle.std.proofs.Common.{◌≡◌, ◌-◌, ◌++◌, ℕ, List, length, refl, sym, ap, subst, ◌∙◌, arith, length-append}
-use Rattle.base_store.specs.{Chains.AreChains, Keys.entry}
-use Rattle.base_store.proofs.Indexed.{chains_stay}
+use Rattle.base_store.{specs.{Chains.AreChains, Keys.entry}, proofs.Indexed.chains_stay}
 use Rattle.station_bases.proofs.entries.Entries.append.Goals as goal
 
 pub returns-clause-keys : goal.returns-clause-keys

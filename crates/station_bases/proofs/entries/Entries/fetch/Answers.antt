@@ -1,5 +1,4 @@
-use Rattle.std.proofs.Common.{◌≡◌, ◌∙◌, Some, arith, sym}
-use Rattle.std.specs.Prelude.{slice_get}
+use Rattle.std.{proofs.Common.{◌≡◌, ◌∙◌, Some, arith, sym}, specs.Prelude.slice_get}
 use Rattle.disk_io.specs.Disk.{bytes_in}
 use Rattle.echo_filed.specs.Filed.{Filed}
 use Rattle.base_folder_store.proofs.Causes.{answers_error}

@@ -1,12 +1,9 @@
-use Rattle.std.proofs.Common.{◌≡◌, true, false, Some, ℕ, List, refl, sym, subst, ◌∙◌, arith}
-use Rattle.std.specs.Prelude.{slice_get}
+use Rattle.std.{proofs.Common.{◌≡◌, true, false, Some, ℕ, List, refl, sym, subst, ◌∙◌, arith}, specs.Prelude.slice_get}
 use Rattle.disk_io.specs.Disk.{bytes_in}
 use Rattle.base_store.specs.Keys.{HasBytesOf}
 use Rattle.echo_filed.specs.{Filed.Filed, Stored.message_in, Stored.stored_bytes, declared.stored.Version.TheVariants.Second}
-use Rattle.base_folder_store.specs.Ahead.{IsPartOf}
-use Rattle.base_folder_store.proofs.{Causes.answers_error, Causes.answers_give, Seen.message_at}
-use Rattle.station_bases.specs.Entries.{message_bytes}
-use Rattle.station_bases.proofs.Ahead.{after_head, message_long, part_whole}
+use Rattle.base_folder_store.{specs.Ahead.IsPartOf, proofs.{Causes.{answers_error, answers_give}, Seen.message_at}}
+use Rattle.station_bases.{specs.Entries.message_bytes, proofs.Ahead.{after_head, message_long, part_whole}}
 use Rattle.station_bases.proofs.entries.Entries.read.Goals as goal
 
 pub returns-in_err-bytes-clause-read : goal.returns-in_err-bytes-clause-read

@@ -1,8 +1,7 @@
 use Rattle.std.proofs.Common.{◌≡◌, ◌++◌, true, false, take, drop, sym, ap, subst, ◌∙◌, arith, List, ℕ}
 use Rattle.disk_io.specs.Disk.{bytes_in}
 use Rattle.base_store.specs.Keys.{HasBytesOf}
-use Rattle.station_bases.specs.Entries.{message_bytes}
-use Rattle.station_bases.proofs.Ahead.{message_long}
+use Rattle.station_bases.{specs.Entries.message_bytes, proofs.Ahead.message_long}
 use Rattle.station_bases.proofs.entries.Entries.stored.Goals as goal
 
 pub returns-clause-stored : goal.returns-clause-stored

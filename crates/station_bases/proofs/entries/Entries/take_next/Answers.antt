@@ -1,6 +1,5 @@
 use Rattle.std.proofs.Common.{◌≡◌, ◌+◌, ◌-◌, ◌++◌, ◌&&◌, ◌||◌, not, nat_lt, ℕ, List, Bool, false, drop, map, Option, sym, ap, subst, ◌∙◌, arith}
-use Rattle.std.proofs.lemmas.Bool.{or_parts}
-use Rattle.std.specs.Prelude.{IfSome}
+use Rattle.std.{proofs.lemmas.Bool.or_parts, specs.Prelude.IfSome}
 use Rattle.disk_io.specs.Disk.{bytes_in}
 use Rattle.base_file.specs.Base.{is_known}
 use Rattle.base_store.specs.Keys.{digested_key, entry}

@@ -1,7 +1,5 @@
-use Rattle.std.proofs.Common.{◌∙◌, ap}
-use Rattle.std.specs.Prelude.{bytes_eq, find, is_some}
-use Rattle.echo_links.specs.Links.{Area}
-use Rattle.echo_links.proofs.Found.{area_found}
+use Rattle.std.{proofs.Common.{◌∙◌, ap}, specs.Prelude.{bytes_eq, find, is_some}}
+use Rattle.echo_links.{specs.Links.Area, proofs.Found.area_found}
 use Rattle.echo_links.proofs.link_file.areas.Areas.has.Goals as goal
 
 pub returns : goal.returns

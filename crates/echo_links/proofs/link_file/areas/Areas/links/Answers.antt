@@ -1,7 +1,5 @@
-use Rattle.std.proofs.Common.{◌∙◌, ap, sym}
-use Rattle.std.specs.Prelude.{bytes_eq, find, option_copied, option_map, slice_get}
-use Rattle.echo_links.specs.Links.{Area}
-use Rattle.echo_links.proofs.Found.{area_at, no_area}
+use Rattle.std.{proofs.Common.{◌∙◌, ap, sym}, specs.Prelude.{bytes_eq, find, option_copied, option_map, slice_get}}
+use Rattle.echo_links.{specs.Links.Area, proofs.Found.{area_at, no_area}}
 use Rattle.echo_links.proofs.link_file.areas.Areas.links.Goals as goal
 
 pub returns-in_err-number : goal.returns-in_err-number

@@ -1,7 +1,5 @@
-use Rattle.std.proofs.Common.{◌≡◌, ◌∷◌, ◌++◌, ◌∙◌, [], List, ℕ, None, length, arith, subst, sym}
-use Rattle.std.specs.{Prelude.bytes_eq, Prelude.find, BTreeMap.insert_entry}
-use Rattle.echo_links.specs.{Links.Area, Found.LeadToAreas}
-use Rattle.echo_links.proofs.Found.{area_added, tag_order}
+use Rattle.std.{proofs.Common.{◌≡◌, ◌∷◌, ◌++◌, ◌∙◌, [], List, ℕ, None, length, arith, subst, sym}, specs.{Prelude.{bytes_eq, find}, BTreeMap.insert_entry}}
+use Rattle.echo_links.{specs.{Links.Area, Found.LeadToAreas}, proofs.Found.{area_added, tag_order}}
 use Rattle.echo_links.proofs.link_file.areas.Areas.push.Goals as goal
 
 pub invariant_of-self-in-Ok : goal.invariant_of-self-in-Ok

@@ -1,8 +1,6 @@
-use Rattle.std.proofs.Common.{◌∙◌, ap, inl, inr, sym}
-use Rattle.std.proofs.lemmas.Result.{err_from_is_err_and}
+use Rattle.std.proofs.{Common.{◌∙◌, ap, inl, inr, sym}, lemmas.Result.err_from_is_err_and}
 use Rattle.echo_addr.specs.Entries.{tokens}
-use Rattle.echo_links.specs.LinkReading.{is_area_known}
-use Rattle.echo_links.proofs.LinkTaking.{area_links, area_repeated}
+use Rattle.echo_links.{specs.LinkReading.is_area_known, proofs.LinkTaking.{area_links, area_repeated}}
 use Rattle.echo_links.proofs.link_file.reading.LinkFileParts.take_area.Goals as goal
 
 pub returns-then-has : goal.returns-then-has
