@@ -1,5 +1,5 @@
 -- A packet of a repair is that of the model.
-use Rattle.std.proofs.Common.{◌≡◌, ℕ, zero, suc, ◌+◌, Bool, true, false, List, [], ◌∷◌, ◌++◌, length, map, Option, Some, None, inl, inr, refl, sym, ap, subst, ◌∙◌}
+use Rattle.std.proofs.Common.{◌≡◌, ℕ, suc, ◌+◌, Bool, true, false, List, [], ◌∷◌, ◌++◌, length, map, Option, Some, None, inl, inr, refl, sym, ap, subst, ◌∙◌}
 use Rattle.std.{proofs.lemmas.Bool.cases_Bool, specs.{Prelude.{◌&&◌, ◌||◌, not, bytes_eq, filter}, Io.KnownBytes.Appends, List.{AllByRecursion, list_any}}}
 use Rattle.base_file.specs.Base.{Base}
 use Rattle.echo_addr.specs.declared.address.Address.{Address}

@@ -1,5 +1,5 @@
 -- Bytes are read back from their escaped form. So two ids with one form are the same.
-use Rattle.std.proofs.Common.{◌≡◌, ℕ, ◌+◌, ◌-◌, ◌<◌, Bool, true, false, List, [], ◌∷◌, ◌++◌, inl, inr, refl, sym, ap, ◌∙◌, append_assoc, append-nil}
+use Rattle.std.proofs.Common.{◌≡◌, ℕ, ◌+◌, ◌-◌, ◌<◌, Bool, true, false, List, [], ◌∷◌, ◌++◌, inl, inr, refl, sym, ap, ◌∙◌, append_assoc}
 use Rattle.std.{proofs.lemmas.Bool.{cases_Bool, eqb-true, true≢false}, specs.Prelude.{◌==◌, ◌&&◌, ◌*◌, nat_le, bytes_eq, if◌then◌else◌}}
 use Rattle.std.specs.{Cmp.Lexicographic.bytes_decides, List.AllByRecursion, List.fold, List.list_all}
 use Rattle.echo_charset.specs.Escaped.{escaped, escaped_byte}
