@@ -168,7 +168,7 @@ fn scan_over<
 {
     let watch = ScanProgress { progress };
     let rt = scan.at.rt;
-    let mut wanted = Wanted {
+    let mut wanted = Scan {
         stamp: scan.to.stamp,
         outbound: scan.to.slashed.as_bytes(),
         listing: LeftFiles::new(rt),
