@@ -1,5 +1,5 @@
 use Rattle.std.proofs.Common.{arith}
-use Rattle.base_folder_store.proofs.folder.Folder.take_in.Goals as goal
+use Rattle.base_folder_store.proofs.folder.Folder.add_keys.Goals as goal
 
 pub returns-clause-indexed : goal.returns-clause-indexed
 returns-clause-indexed g c honest = grind arith
