@@ -7,7 +7,7 @@ returns-then-begins-ends-clause-some c = grind (arith, in_order, within)
 
 pub returns-clause-bytes : goal.returns-clause-bytes
 returns-clause-bytes c = λ file s long has.
-    piece_is file c.args.entries.now c.args.place c.place_of-begins.result c.end_of-ends.result s has c.place_of-begins.ensures (c.end_of-ends.ensures file long)
+    piece_is file c.args.entries.now c.args.place c.message_start-begins.result c.message_end-ends.result s has c.message_start-begins.ensures (c.message_end-ends.ensures file long)
 
 pub returns-clause-at : goal.returns-clause-at
-returns-clause-at c = λ file long. (c.place_of-begins.ensures, c.end_of-ends.ensures file long)
+returns-clause-at c = λ file long. (c.message_start-begins.ensures, c.message_end-ends.ensures file long)

@@ -1,6 +1,6 @@
 use Rattle.std.{proofs.{Common.{◌≡◌, ℕ, List, true, ◌∙◌, sym}, lemmas.Str.utf8_lossy-IsUtf8}, specs.Str.IsUtf8}
 use Rattle.echo_charset.specs.{declared.charset.Charset.Charset, Charset.decoded_text, Charset.is_utf8}
-use Rattle.echo_charset.proofs.charset.Charset.bytes_of.Goals as goal
+use Rattle.echo_charset.proofs.charset.Charset.encode_text.Goals as goal
 
 says_itself : (charset : Charset) (text : List ℕ) → is_utf8 charset ≡ true → IsUtf8 text → decoded_text charset text ≡ text
 unfolding decoded_text
