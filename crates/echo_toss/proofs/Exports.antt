@@ -3,7 +3,7 @@ use Rattle.std.proofs.Common.{◌≡◌, ℕ, ◌+◌, Bool, false, true≢false
 use Rattle.std.proofs.lemmas.{Bool.cases_Bool, Bool.cond-false, Bool.cond-true, List.drop_more, Option.get_or_from_slice_get, Option.slice_get_within}
 use Rattle.std.specs.{Prelude.filter, Prelude.slice_get, List.flat_map, declared.alloc.Global.Global}
 use Rattle.echo_addr.specs.{declared.address.Address.Address, declared.address.NetNode.NetNode, Address.net_node_of}
-use Rattle.echo_text.{specs.Echo.{EchoText, IsEcho, TextOf}, proofs.{OneReading.one_text, NoZeros.written_has_no_zero}}
+use Rattle.echo_text.{specs.Echo.{EchoText, IsEcho}, proofs.NoZeros.written_has_no_zero}
 use Rattle.echo_filed.{specs.{Written.text_of, Filed.Filed, Sets.{address_set, entry_set}}, proofs.Texts.text_is_text}
 use Rattle.echo_packet.specs.Message.{HasNoZero}
 use Rattle.model_steps.{proofs.Copies.exported_is_echo, specs.declared.{stamp.Stamp.Stamp, packet.Packet.Packet}}
@@ -83,9 +83,6 @@ pub exported_made : (file : LinkFile) (e : EchoText) (own : NetNode) (links : Li
     → seen ≡ entry_set (before ++ own ∷ map net_node_of links) → passed ≡ e.path → path ≡ passed ++ own ∷ []
     → record { tag = tag; kept = kept; seen = seen; path = path } ≡ exported file e
 exported_made file e own links tag kept before seen passed path o l t k b s q p = grind (arith, exported_is)
-
-pub written_is : (e : EchoText) (bytes : List ℕ) → IsEcho e → TextOf e bytes → bytes ≡ text_of e
-written_is e bytes is text = one_text e bytes (text_of e) text (text_is_text e is)
 
 pub exported_no_zero : (file : LinkFile) → IsFile file → (e : EchoText) → IsEcho e → HasNoZero (text_of (exported file e))
 exported_no_zero file is e h =

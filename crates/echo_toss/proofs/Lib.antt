@@ -14,3 +14,4 @@ pub mod Parsed
 pub mod WholePackets
 pub mod PacketsIn
 pub mod Bounds
+pub mod SameWay

@@ -9,3 +9,4 @@ pub mod Messages
 pub mod Stored
 pub mod Stores
 pub mod PacketsIn
+pub mod Ways

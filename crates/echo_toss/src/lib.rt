@@ -23,6 +23,7 @@ mod storing;
 mod tally;
 mod tosser;
 mod tossing;
+mod ways;
 
 pub use base_file::BaseFault;
 pub use counting::{CountedPacket, count_packets, link_set};

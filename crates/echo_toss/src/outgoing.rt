@@ -1,23 +1,22 @@
 //! The outgoing form of a message that waits for a scan.
-ghost use Rattle.std.specs.Prelude.{◌≡◌, ◌<◌, [], ◌∷◌, ◌++◌, ◌&&◌, not, false, length, map, filter, drop, option_map, unwrap_or, IfOk, IsErrOf, OnOk};
+ghost use Rattle.std.specs.Prelude.{◌≡◌, ◌<◌, [], ◌∷◌, ◌++◌, ◌&&◌, not, false, length, filter, drop, option_map, unwrap_or, IfOk, IfSome, IsErrOf, OnOk};
 ghost use Rattle.std.specs.List.{list_any};
 ghost use Rattle.echo_addr.specs.Address.{net_node_of};
-ghost use Rattle.echo_packet.specs.Message.{HasNoZero};
 ghost use Rattle.echo_links.specs.Links.{links_of, same_address};
-ghost use Rattle.echo_filed.specs.{Sets.address_set, Sets.entry_set, Sets.same_entry, Written.text_of};
+ghost use Rattle.echo_filed.specs.{Sets.address_set, Sets.same_entry, Written.text_of};
 ghost use Rattle.disk_io.specs.Disk.{Honestly};
 ghost use Rattle.base_file.specs.Base.{Base};
 ghost use Rattle.base_store.specs.Store.{HasStoreCause, LooksOn};
 ghost use Rattle.model_steps.specs.Scanning.{copy_to, exported, message_out, targets};
-ghost use Rattle.echo_toss.specs.{Bounds.IsFullWhenRead, Exports.GrowsByMessageAt, Exports.nowhere, Exports.outgoing_of, Exports.sent_of};
+ghost use Rattle.echo_toss.specs.{Bounds.IsFullWhenRead, Exports.GrowsByMessageAt, Exports.nowhere, Exports.outgoing_of, Exports.sent_of, Ways.CameOn, Ways.IsWay, Ways.list_lines};
 
-use crate::sets::{address_set, entry_set, entry_union};
+use crate::sets::address_set;
+use crate::ways::{Way, lines_out, text_with, way_of};
 use base_store::{Store, StoreError};
 use echo_addr::{Address, Items, NetNode};
 use echo_filed::Filed;
 use echo_links::LinkFile;
 use echo_packet::{Buffers, Packed, PackedCopy, PackedNumbers};
-use echo_text::{Echo, write_parts};
 use std::alloc::{AllocError, Global};
 use std::marker::Model;
 
@@ -55,9 +54,10 @@ pub(crate) fn waiting<T: Store>(
 {
     let mut all = Vec::new(alloc);
     let count = store.len();
+    let mut last = None;
     let mut at = store.cursor();
     'waiting: while at < count {
-        push_message(alloc, links, store, at, &mut all)?;
+        push_message(alloc, links, store, at, &mut last, &mut all)?;
         at += 1;
     }
     Ok(all)
@@ -68,19 +68,22 @@ pub(crate) fn push_message<T: Store>(
     links: &LinkFile,
     store: &mut T,
     place: usize,
+    last: &mut Option<Way>,
     all: &mut Vec<OutgoingMessage>,
 ) -> Result<(), StoreError>
     requires ready { (T.state store.old).is_ready }
+    requires last { IfSome last.old (IsWay links.now) }
     requires within { Honestly (T.state store.old).disk ((base : Base) → (T.state store.old).keeps base → place < length base.messages) }
     ensures grown { Honestly (T.state store.new).disk ((base : Base) → (T.state store.old).keeps base
         → OnOk result (GrowsByMessageAt links.now base.messages place all.old.items all.new.items)) }
     ensures looks { LooksOn (T.state store.old) (T.state store.new) }
     ensures many { IsErrOf result StoreError.TooMany → (T.state store.old).is_full }
     ensures cause { HasStoreCause (T.state store.old) (T.state store.new) (T.failures store.old) (T.failures store.new) result }
+    ensures last { IfSome last.new (IsWay links.now) }
 {
     store.fetch(place)?;
     match store.at_hand() {
-        Some(message) => Ok(push_prepared(alloc, links, message, all)?),
+        Some(message) => Ok(push_prepared(alloc, links, message, last, all)?),
         None => Err(StoreError::Damaged),
     }
 }
@@ -93,7 +96,8 @@ pub(crate) fn prepared(
     ensures { IfOk result (λ o. o ≡ outgoing_of links.now message.now) }
 {
     let receivers = targets(alloc, links, message)?;
-    prepared_for(alloc, links, message, receivers)
+    let lines = lines_out(alloc, links, &message.echo)?;
+    prepared_for(alloc, links, message, receivers, &lines)
 }
 
 #[tactic(auto, unfolding(model_steps::specs::Scanning::copy_to))]
@@ -102,42 +106,71 @@ fn prepared_for(
     links: &LinkFile,
     message: &Filed,
     receivers: Items<Address>,
+    lines: &[u8],
 ) -> Result<OutgoingMessage, AllocError>
-    requires { receivers ≡ address_set (targets links.now message.now) }
+    requires receivers { receivers ≡ address_set (targets links.now message.now) }
+    requires lines { lines.now ≡ list_lines (exported links.now message.now.echo) }
     ensures { IfOk result (λ o. o ≡ outgoing_of links.now message.now) }
 {
-    let one = exported(alloc, links, message)?;
+    let one = exported(alloc, links, message, lines)?;
     Ok(OutgoingMessage {
         message: PackedCopy::new(alloc, one)?,
         targets: receivers,
     })
 }
 
-#[tactic(auto, unfolding(model_steps::specs::Scanning::copy_to))]
+/// The exported message, which has these SEEN-BY and PATH lines.
 pub(crate) fn exported(
     alloc: Global,
     links: &LinkFile,
     message: &Filed,
+    lines: &[u8],
 ) -> Result<Packed, AllocError>
+    requires { lines.now ≡ list_lines (exported links.now message.now.echo) }
     ensures { IfOk result (λ one. one ≡ copy_to links.now nowhere message.now) }
 {
-    let text = exported_text(alloc, links, &message.echo)?;
+    let text = text_with(alloc, &message.echo, lines)?;
     packed(alloc, links, message, text)
 }
 
+#[tactic(auto, using(crate::proofs::SameWay::on_way))]
 fn push_prepared(
     alloc: Global,
     links: &LinkFile,
     message: &Filed,
+    last: &mut Option<Way>,
     all: &mut Vec<OutgoingMessage>,
 ) -> Result<(), AllocError>
-    ensures { OnOk result (all.new.items ≡ all.old.items ++ sent_of links.now (message.now ∷ [])) }
+    requires { IfSome last.old (IsWay links.now) }
+    ensures sent { OnOk result (all.new.items ≡ all.old.items ++ sent_of links.now (message.now ∷ [])) }
+    ensures last { IfSome last.new (IsWay links.now) }
 {
-    let receivers = targets(alloc, links, message)?;
-    if !receivers.is_empty() {
-        all.push(prepared_for(alloc, links, message, receivers)?)?;
-    }
+    let Some(way) = way_of(alloc, links, last.take(), message)? else {
+        return Ok(());
+    };
+    all.push(prepared_on(alloc, links, message, &way)?)?;
+    *last = Some(way);
     Ok(())
+}
+
+fn prepared_on(
+    alloc: Global,
+    links: &LinkFile,
+    message: &Filed,
+    way: &Way,
+) -> Result<OutgoingMessage, AllocError>
+    requires way { IsWay links.now way.now }
+    requires came { CameOn way.now message.now }
+    ensures { IfOk result (λ o. o ≡ outgoing_of links.now message.now) }
+{
+    let receivers = Vec::from_slice(alloc, way.targets.as_slice())?;
+    prepared_for(
+        alloc,
+        links,
+        message,
+        Items::new(receivers),
+        way.lines.as_slice(),
+    )
 }
 
 #[tactic(auto, unfolding(echo_links::specs::Links::links_of))]
@@ -151,7 +184,11 @@ pub(crate) fn links_of<'a>(links: &'a LinkFile, tag: &[u8]) -> &'a [Address]
 }
 
 #[tactic(auto, unfolding(model_steps::specs::Scanning::targets))]
-fn targets(alloc: Global, links: &LinkFile, message: &Filed) -> Result<Items<Address>, AllocError>
+pub(crate) fn targets(
+    alloc: Global,
+    links: &LinkFile,
+    message: &Filed,
+) -> Result<Items<Address>, AllocError>
     ensures { IfOk result (λ found. found ≡ address_set (targets links.now message.now)) }
 {
     let echo = &message.echo;
@@ -190,55 +227,14 @@ fn is_seen_by(seen: &[NetNode], link: Address) -> bool
     seen.contains(&link.net_node())
 }
 
-fn exported_text(alloc: Global, links: &LinkFile, echo: &Echo) -> Result<Items<u8>, AllocError>
-    ensures no_zero { IfOk result HasNoZero }
-    ensures text { IfOk result (λ text. text ≡ text_of (exported links.now echo.now)) }
-{
-    let own = links.system().net_node();
-    let tag = echo.tag.as_slice();
-    let all = links_of(links, tag);
-    let seen = joined(alloc, echo.seen.as_slice(), own, all)?;
-    let path = path_with(alloc, echo.path.as_slice(), own)?;
-    let text = write_parts(alloc, tag, &echo.kept, seen.as_slice(), &path)?;
-    // A scan holds many texts, so no text has spare room.
-    let exact = Vec::from_slice(alloc, &text)?;
-    Ok(Items::new(exact))
-}
-
-fn path_with(alloc: Global, path: &[NetNode], own: NetNode) -> Result<Vec<NetNode>, AllocError>
-    ensures { IfOk result (λ all. all.items ≡ path.now ++ own ∷ []) }
-{
-    let mut all = Vec::with_capacity(alloc, path.len().saturating_add(1))?;
-    all.extend_from_slice(path)?;
-    all.push(own)?;
-    Ok(all)
-}
-
-fn joined(
-    alloc: Global,
-    seen: &[NetNode],
-    own: NetNode,
-    links: &[Address],
-) -> Result<Items<NetNode>, AllocError>
-    ensures { IfOk result (λ set. set ≡ entry_set (seen.now ++ own ∷ map net_node_of links.now)) }
-{
-    let mut added = Vec::with_capacity(alloc, links.len().saturating_add(1))?;
-    added.push(own)?;
-    'links: for link in links {
-        added.push(link.net_node())?;
-    }
-    let set = entry_union(alloc, seen, &entry_set(added))?;
-    Ok(Items::new(set))
-}
-
 fn packed(
     alloc: Global,
     links: &LinkFile,
     message: &Filed,
-    text: Items<u8>,
+    text: Vec<u8>,
 ) -> Result<Packed, AllocError>
-    requires { HasNoZero text }
-    ensures { IfOk result (λ copy. copy ≡ message_out links.now nowhere message.now text) }
+    requires { text.items ≡ text_of (exported links.now message.now.echo) }
+    ensures { IfOk result (λ copy. copy ≡ message_out links.now nowhere message.now text.items) }
 {
     let system = links.system();
     let numbers = PackedNumbers {
@@ -253,7 +249,7 @@ fn packed(
         to_name: Vec::from_slice(alloc, message.to_name.as_slice())?,
         from_name: Vec::from_slice(alloc, message.from_name.as_slice())?,
         subject: Vec::from_slice(alloc, message.subject.as_slice())?,
-        text: text.into_vec(),
+        text,
     };
     Ok(Packed::from_parts(numbers, message.date, strings))
 }

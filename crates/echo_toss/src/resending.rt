@@ -5,6 +5,7 @@ ghost use Rattle.model_steps.specs.{Resending.is_resent, Resending.is_whole_in, 
 
 use crate::outgoing::{exported, prepared};
 use crate::packing::push_copy;
+use crate::ways::lines_out;
 use disk_io::Watched;
 use echo_addr::Address;
 use echo_filed::{Filed, is_stub};
@@ -52,7 +53,8 @@ pub fn push_exported(
 ) -> Result<(), AllocError>
     ensures { OnOk result (bytes.new.items ≡ bytes.old.items ++ message_bytes (copy_to links.now to message.now)) }
 {
-    let one = exported(alloc, links, message)?;
+    let lines = lines_out(alloc, links, &message.echo)?;
+    let one = exported(alloc, links, message, &lines)?;
     let mut longer = Watched::new(mem::replace(bytes, Vec::new(alloc)));
     match send_message(&mut longer, &one, to.node, to.net, &mut 0) {
         Ok(()) => {

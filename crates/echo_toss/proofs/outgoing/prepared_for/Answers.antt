@@ -5,4 +5,4 @@ use Rattle.echo_toss.proofs.AscendingSets.{set_again}
 use Rattle.echo_toss.proofs.outgoing.prepared_for.Goals as goal
 
 pub invariant_of-result : goal.invariant_of-result
-invariant_of-result c = subst (λ l. address_set l ≡ l) (sym c.requires) (set_again (targets c.args.links.now c.args.message.now))
+invariant_of-result c = subst (λ l. address_set l ≡ l) (sym c.requires.receivers) (set_again (targets c.args.links.now c.args.message.now))

@@ -2,7 +2,7 @@ use Rattle.std.proofs.{Common.{◌≡◌, ◌∷◌, [], ◌++◌, List, map, ta
 use Rattle.echo_addr.specs.{declared.address.Address.Address, declared.address.NetNode.NetNode, Address.net_node_of}
 use Rattle.echo_filed.specs.Sets.{entry_set}
 use Rattle.echo_toss.proofs.AscendingSets.{entries_twice}
-use Rattle.echo_toss.proofs.outgoing.joined.Goals as goal
+use Rattle.echo_toss.proofs.ways.joined.Goals as goal
 
 pub returns : goal.returns
 returns c =
