@@ -3,7 +3,8 @@ use Rattle.std.proofs.Common.{◌≡◌, Bool, true, false, subst, ℕ, ◌+◌,
 use Rattle.std.{proofs.lemmas.List.{length-take-le, take_more}, specs.List.flat_map}
 use Rattle.echo_addr.specs.declared.address.Address.{Address}
 use Rattle.echo_links.specs.Links.{LinkFile}
-use Rattle.echo_net.specs.{Parts.AreCutOff, declared.{drawing.Drawing.Drawing, verdict.Verdict.Verdict}, Drawn.IsDrawing}
+use Rattle.echo_net.specs.{declared.{drawing.Drawing.Drawing, verdict.Verdict.Verdict}, Drawn.IsDrawing}
+use Rattle.cmd_suppose.specs.Parts.{AreCutOff}
 use Rattle.cmd_status.{specs.declared.status.Status.{Status, TheVariants.Good}, proofs.Lines.alone}
 use Rattle.cmd_print.specs.{Pushed.Pushes, Pictured.{head_lines, link_line, picture_lines, system_line}}
 use Rattle.cmd_check.{specs.{Checking.{IsCheckVerdict, verdict_status}, JudgedAreas.alone_line}, proofs.Checks.{good_is_yes, yes_is_good}}

@@ -3,14 +3,13 @@ use Rattle.std.proofs.Common.{◌≡◌, ◌⊎◌, inl, inr, ℕ, ◌&&◌, Boo
 use Rattle.std.specs.List.{AllZip, count_by, flat_map}
 use Rattle.echo_addr.specs.declared.address.Address.{Address}
 use Rattle.echo_links.specs.Links.{LinkFile}
-use Rattle.echo_net.specs.Parts.{AreCutOff}
 use Rattle.echo_nodelist.specs.declared.line.Line.{Line}
 use Rattle.model_run.specs.{Tidy.Tidy, AnyState.NewMessagesAreInOrder}
 use Rattle.cmd_status.specs.{Devices.Output, declared.fault.Fault.Fault, declared.status.Status.Status, declared.status.Status.TheVariants.Good, Ended.Answers, Ended.IsOutOfMemory, Inputs.AreLinkFiles, Inputs.IsFirstFaultGiven, Inputs.IsLinkFault, Inputs.IsNodelistGiven}
 use Rattle.cmd_status.proofs.Lines.{alone}
 use Rattle.cmd_print.specs.Pushed.{Pushes}
 use Rattle.cmd_check.specs.{CheckingAll.{IsAreaChecked, verdicts_status}, declared.supposing.Judged.{Judged, TheVariants.{Ended, Unknown}}}
-use Rattle.cmd_suppose.specs.{Assuming.assumed_line, Leaving.first_unknown, Leaving.texts_left}
+use Rattle.cmd_suppose.specs.{Assuming.assumed_line, Leaving.first_unknown, Leaving.texts_left, Parts.AreCutOff}
 use Rattle.cmd_check.specs.JudgedAreas.{AreAreasJudged, AreCutWithout, AreNetLines, AreTailLines, CutsShown, IsAreaJudged, IsVerdictLeft, JudgedNet, alone_line, cut_line, is_alone, judged_areas_line, tail_lines, without_line}
 use Rattle.cmd_suppose.specs.SupposedFiles.{AreSupposed, AreUnseen, IsSupposedFile, ReadsSupposed, supposed_here, unseen_line}
 use Rattle.cmd_check.specs.Supposing.{AreJudgedTags, EndsOrUnknown, IsFirstUnknown, IsJudged, IsJudgingFault, IsKnownFault, IsKnownJudged, IsLeftShown, IsNetShown, IsPromisedSupposing, IsSupposingShown, IsWhole, IsWrittenFault, SupposingAnswers, ended_as}

@@ -7,8 +7,7 @@ use Rattle.echo_links.specs.Links.{LinkFile, has_area}
 use Rattle.echo_nodelist.specs.declared.line.Line.{Line}
 use Rattle.cmd_status.specs.{Devices.Output, declared.fault.Fault.Fault, Ended.Answers}
 use Rattle.cmd_check.specs.CheckingAll.{AreEachChecked, IsAreaChecked}
-use Rattle.cmd_suppose.specs.{Assuming.{assumed_line, assumed_note, link_word}, SupposedFiles.{AreUnseen, supposed_here, unseen_line, unseen_note}}
-use Rattle.echo_net.specs.{Parts.AreCutOff}
+use Rattle.cmd_suppose.specs.{Assuming.{assumed_line, assumed_note, link_word}, Parts.AreCutOff, SupposedFiles.{AreUnseen, supposed_here, unseen_line, unseen_note}}
 
 -- The given files, these with those of the supposed systems, what is left of them, the supposed and the left out
 -- systems.

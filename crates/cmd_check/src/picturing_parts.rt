@@ -9,7 +9,7 @@ use crate::checking::check_status;
 use crate::supposed_areas::{is_alone, push_alone};
 use cmd_print::push_picture;
 use cmd_status::{Fault, Status, link_files, print_rest};
-use cmd_suppose::files_left;
+use cmd_suppose::{cut_parts, files_left};
 use disk_io::Sink;
 use echo_addr::{Address, Items};
 use echo_charset::written;
@@ -82,7 +82,7 @@ fn push_parts_picture(
 {
     let verdict = echo_net::check(alloc, left, tag)?;
     let drawing = echo_net::draw(alloc, left, tag, &verdict)?;
-    let cut = echo_net::cut_parts(alloc, left, tag)?;
+    let cut = cut_parts(alloc, left, tag)?;
     let front = picture_front(alloc, tag, &verdict, &drawing)?;
     lines.extend_from_slice(&front)?;
     push_filled(lines, &cut)?;

@@ -1,26 +1,24 @@
 //! The lines of `check` with `--assume`, `--assume-missing` and `--without`.
 ghost use Rattle.std.specs.{Prelude.{◌≡◌, ◌≤◌, ◌++◌, ◌&&◌, List, IfOk, OnOk, length, option_copied}, List.{AllZip, count_by, flat_map}};
 ghost use Rattle.echo_links.specs.Links.{LinkFile};
-ghost use Rattle.echo_net.specs.Listings.{IsListing};
 ghost use Rattle.cmd_status.specs.{Devices.output_of};
 ghost use Rattle.cmd_print.specs.Pushed.{Pushes};
 ghost use Rattle.cmd_check.specs.CheckingAll.{IsAreaChecked};
 ghost use Rattle.cmd_check.specs.JudgedAreas.{AreAreasJudged, AreNetLines, AreTailLines, CutsShown, IsAreaJudged, IsVerdictLeft, PrintsSupposed, alone_line, cut_line, judged_areas_line, judged_net, supposed_notes, without_line, without_note};
 ghost use Rattle.cmd_check.specs.JudgedAreas as judged;
-ghost use Rattle.cmd_suppose.specs.SupposedFiles.{unseen_note};
+ghost use Rattle.cmd_suppose.specs.{Listings.IsListing, SupposedFiles.unseen_note};
 
 use crate::checking::push_check;
 use crate::checking_all::no_count;
 use cmd_status::{Fault, print_rest};
 use cmd_suppose::{
-    SupposedAreas, SupposedHere, is_carried, push_assumed_lines, push_links, push_notes,
-    push_unseen_line, supposed_here, unseen,
+    Listing, SupposedAreas, SupposedHere, cut_parts, is_carried, push_assumed_lines, push_links,
+    push_notes, push_unseen_line, supposed_here, unseen,
 };
 use disk_io::Sink;
 use echo_addr::{Address, Items};
 use echo_charset::{push_word, written};
 use echo_links::LinkFile;
-use echo_net::{Listing, cut_parts};
 use echo_nodelist::Nodelist;
 use std::alloc::{AllocError, Global};
 use std::io::Write;

@@ -10,7 +10,7 @@ use Rattle.echo_filed.specs.Sets.{address_before}
 use Rattle.model_graph.{specs.Walk.{IsAt, Reaches, Walk}, proofs.Members.{Among-from_Contains, Contains-from_Among, Reaches-trans}}
 use Rattle.model_run.{proofs.{Lists.{Among-filter_from, Among-filter_to}, Places.lister-carries}, specs.Tidy.{carries, lists}}
 use Rattle.echo_net.specs.{declared.link.Link.Link, Drawn.back, Drawn.has_link, Faults.AreInOrder, Nets.link, Rows.system_at}
-use Rattle.echo_net.specs.Parts.{AreBothWays, AreGrouped, AreLabels, AreOthers, ArePaired, AreParts, AreSettled, IsGroup, IsLargestAt, JoinsEnds, JoinsLabels, linked_both, relabeled}
+use Rattle.cmd_suppose.specs.Parts.{AreBothWays, AreGrouped, AreLabels, AreOthers, ArePaired, AreParts, AreSettled, IsGroup, IsLargestAt, JoinsEnds, JoinsLabels, linked_both, relabeled}
 use Rattle.echo_net.proofs.{Drawings.links_held, Owned.before_back, Owned.in_order_from_sorted}
 use Rattle.echo_net.proofs.Orders.{address_order, address_total, at_place, before_is, earlier_less, not_before_itself, one_place}
 

@@ -7,8 +7,8 @@ use Rattle.echo_links.specs.Links.{LinkFile, is_link, same_address}
 use Rattle.model_graph.{specs.Walk.Among, proofs.Members.{Among-from_Contains, Contains-from_Among}}
 use Rattle.model_run.proofs.Lists.{any-from, any-to, Among-filter_from, Among-filter_to, Among-flat_map_from, Among-flat_map_to, Among-map_to, Among-map_from}
 use Rattle.model_run.specs.Tidy.{lists}
-use Rattle.echo_net.specs.{declared.link.Link.Link, Drawn.back, Drawn.has_address, Listings.IsListedIn, Listings.IsListing, Listings.is_listed, Listings.unknown_from, Nets.link}
-use Rattle.echo_net.proofs.{Drawings.address_held, Orders.same_itself}
+use Rattle.echo_net.{specs.{declared.link.Link.Link, Drawn.{back, has_address}, Nets.link}, proofs.{Drawings.address_held, Orders.same_itself}}
+use Rattle.cmd_suppose.specs.Listings.{IsListedIn, IsListing, is_listed, unknown_from}
 
 -- links the other way
 turned_held : (links : List Link) (l : Link) → Contains (map back links) l ↔ Contains links (back l)

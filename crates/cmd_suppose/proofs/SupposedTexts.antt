@@ -8,10 +8,9 @@ use Rattle.echo_links.specs.declared.fault.LinkFault.TheVariants as link
 use Rattle.cmd_status.{proofs.Giving.read_more, specs.{declared.fault.Fault.Fault, Ended.IsOutOfMemory, Inputs.{AreLinkFiles, IsLinkFault}}}
 use Rattle.model_graph.proofs.Members.{Among-from_Contains, Contains-from_Among}
 use Rattle.model_run.{specs.Tidy.lists, proofs.Lists.{Among-filter_from, Among-filter_to}}
-use Rattle.echo_net.specs.{Listings.{IsListedIn, IsListing}, declared.link.Link.Link, Drawn.has_address, Faults.IsCarried, Nets.{link, systems}}
-use Rattle.echo_net.proofs.Drawings.{address_held}
+use Rattle.echo_net.{specs.{declared.link.Link.Link, Drawn.has_address, Faults.IsCarried, Nets.{link, systems}}, proofs.Drawings.address_held}
 use Rattle.cmd_print.specs.Pushed.{Pushes}
-use Rattle.cmd_suppose.{specs.{Assuming.link_word, Leaving.stays}, proofs.Zips.{zip_from, zip_next, zip_to}}
+use Rattle.cmd_suppose.{specs.{Assuming.link_word, Leaving.stays, Listings.{IsListedIn, IsListing}}, proofs.Zips.{zip_from, zip_next, zip_to}}
 use Rattle.cmd_suppose.specs.SupposedFiles.{AddsSupposed, AreExactly, AreMissing, AreSupposed, AreSupposedLines, AreUnseen, IsMissing, IsSupposedFile, ReadsMore, Supposes, SupposesIn, area_line, has_supposed, line_of, system_line, unseen_line, unseen_note}
 
 pub not_so : (b : Bool) → b ≡ false → b ≡ true → ⊥

@@ -4,9 +4,9 @@ use Rattle.std.specs.List.{AllByRecursion, AllZip, flat_map, list_any, Sorted.Is
 use Rattle.echo_addr.specs.{declared.address.Address.Address, Address.address_text}
 use Rattle.echo_links.specs.{Found.address_order, Links.Area, Links.LinkFile, Links.has_area}
 use Rattle.model_run.specs.Tidy.{lists}
-use Rattle.echo_net.specs.{Listings.is_listed, Faults.IsCarried, Nets.systems}
+use Rattle.echo_net.specs.{Faults.IsCarried, Nets.systems}
 use Rattle.cmd_status.specs.Inputs.{AreLinkFiles}
-use Rattle.cmd_suppose.specs.Assuming.{link_word}
+use Rattle.cmd_suppose.specs.{Assuming.link_word, Listings.is_listed}
 
 -- Exactly these addresses, ascending, each once.
 pub record AreExactly (IsMember : Address → Type 0) (all : List Address) : Type 0 where

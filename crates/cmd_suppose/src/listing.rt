@@ -4,15 +4,13 @@ ghost use Rattle.std.specs.{Prelude.{◌≡◌, ◌++◌, ◌↔◌, ℕ, List, 
 ghost use Rattle.echo_addr.specs.declared.address.Address.{Address};
 ghost use Rattle.echo_links.specs.Links.{LinkFile};
 ghost use Rattle.model_run.specs.Tidy.{lists};
-ghost use Rattle.echo_net.specs.{declared.link.Link.Link, Drawn.back, Listings.IsListedIn, Listings.IsListing, Listings.is_listed, Listings.unknown_from};
+ghost use Rattle.echo_net.specs.{declared.link.Link.Link, Drawn.back};
+ghost use Rattle.cmd_suppose.specs.Listings.{IsListedIn, IsListing, is_listed, unknown_from};
 ghost use Rattle.echo_net.specs.Nets as net;
 
-use crate::carriers::{links, systems};
-use crate::drawing::{back, has_address};
-use crate::link::Link;
-use crate::rows::outgoing_links;
 use echo_addr::{Address, put_in_order};
 use echo_links::LinkFile;
+use echo_net::{Link, back, has_address, links, outgoing_links, systems};
 use std::alloc::{AllocError, Global};
 use std::marker::Model;
 
@@ -24,7 +22,8 @@ pub struct Listing {
 
 impl Model for Listing {
     ghost use Rattle.std.specs.{Prelude.List, List.Sorted.IsStrictlySortedBy};
-    ghost use Rattle.echo_net.specs.{declared.link.Link.Link, Listings.back_order};
+    ghost use Rattle.echo_net.specs.declared.link.Link.{Link};
+    ghost use Rattle.cmd_suppose.specs.Listings.{back_order};
 
     ghost Value = { List Link };
 

@@ -3,15 +3,12 @@
 ghost use Rattle.std.specs.{Prelude.{◌≡◌, ◌<◌, ◌↔◌, ℕ, Bool, IfOk, Contains, filter, length, slice_index, vec_len}, List.Sorted.IsStrictlySortedBy};
 ghost use Rattle.echo_addr.specs.declared.address.Address.{Address};
 ghost use Rattle.echo_net.specs.{declared.link.Link.Link, Drawn.back, Drawn.has_link};
-ghost use Rattle.echo_net.specs.Parts.{AreBothWays, AreCutOff, AreGrouped, AreLabels, AreOthers, ArePaired, AreParts, AreRelabeled, AreSettled, IsLargestAt, JoinsEnds};
+ghost use Rattle.cmd_suppose.specs.Parts.{AreBothWays, AreCutOff, AreGrouped, AreLabels, AreOthers, ArePaired, AreParts, AreRelabeled, AreSettled, IsLargestAt, JoinsEnds};
 
-use crate::carriers::{carriers, links};
-use crate::drawing::{back, has_link};
-use crate::link::Link;
 use crate::listing::Listing;
-use crate::searching::place;
 use echo_addr::{Address, Items};
 use echo_links::LinkFile;
+use echo_net::{Link, back, carriers, has_link, links, place};
 use std::alloc::{AllocError, Global};
 
 /// The parts of the area that are cut off: each part but the largest, by the smallest systems. Of two largest parts the

@@ -1,7 +1,7 @@
 //! The link files of systems that sent none, for several areas at once.
 ghost use Rattle.std.specs.{Prelude.{◌≡◌, ◌++◌, ◌∷◌, [], ◌⊎◌, ℕ, List, IfErr, IfOk, OnOk, filter}, List.AllZip};
 ghost use Rattle.echo_links.specs.Links.{LinkFile, upper};
-ghost use Rattle.echo_net.specs.Listings.{IsListing, is_listed};
+ghost use Rattle.cmd_suppose.specs.Listings.{IsListing, is_listed};
 ghost use Rattle.cmd_status.specs.{Ended.IsOutOfMemory, Inputs.IsLinkFault};
 ghost use Rattle.cmd_print.specs.Pushed.{Pushes};
 ghost use Rattle.cmd_suppose.specs.SupposedFiles.{AddsSupposed, AreMissing, AreSupposed, AreSupposedLines, AreUnseen, IsSupposedFile, ReadsMore, ReadsSupposed, Supposes, SupposesIn, supposed_here, unseen_line};
@@ -9,10 +9,10 @@ ghost use Rattle.cmd_suppose.specs.SupposedFiles as supposed;
 
 use crate::assuming::{is_carried, push_links};
 use crate::leaving::{push_area, push_system, staying};
+use crate::listing::{Listing, missing};
 use cmd_status::{Fault, link_files};
 use echo_addr::{Address, Items, put_in_order};
 use echo_links::LinkFile;
-use echo_net::{Listing, missing};
 use std::alloc::{AllocError, Global};
 
 /// Which systems are judged without a file, and which are left out.

@@ -3,6 +3,4 @@ pub mod Collected
 pub mod Owned
 pub mod Twins
 pub mod Drawings
-pub mod Listers
-pub mod Groups
 pub mod AllFaults

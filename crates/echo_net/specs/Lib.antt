@@ -6,6 +6,4 @@ pub mod Faults
 pub mod Absent
 pub mod Printed
 pub mod Drawn
-pub mod Listings
-pub mod Parts
 pub mod AllFaults

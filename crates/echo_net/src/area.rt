@@ -8,7 +8,7 @@ ghost use Rattle.model_run.specs.Tidy.{carries, lists};
 ghost use Rattle.echo_net.specs.declared.link.Link.{Link};
 ghost use Rattle.echo_net.specs.Nets as net;
 
-use crate::carriers::{is_before, push_each};
+use crate::area_lists::{is_before, push_each};
 use crate::link::Link;
 use echo_addr::{Address, put_in_order};
 use echo_links::LinkFile;

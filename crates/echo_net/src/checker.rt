@@ -5,7 +5,7 @@ ghost use Rattle.model_run.specs.{AnyState.NewMessagesAreInOrder, Tidy.Tidy};
 ghost use Rattle.echo_net.specs.{Faults.{IfNo, IfYes, IsFirstFault, IsSharedSystem, IsYes}, Nets.{carrier_count, linked_pairs}};
 
 use crate::area::{AreaGraph, collect_area};
-use crate::carriers::systems;
+use crate::area_lists::systems;
 use crate::graph_faults::{area_graph, graph_fault};
 use crate::link_faults::link_fault;
 use crate::owners::shared_address;

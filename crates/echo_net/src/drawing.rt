@@ -6,7 +6,7 @@ ghost use Rattle.echo_net.specs.Drawn.{IsDrawing, back, link_from, loop_links, l
 ghost use Rattle.echo_net.specs.declared.link.Link.{Link};
 ghost use Rattle.echo_net.specs.Drawn as drawn;
 
-use crate::carriers::{carriers, is_before, links};
+use crate::area_lists::{carriers, is_before, links};
 use crate::link::Link;
 use crate::searching::holds;
 use crate::verdict::{NetFault, Verdict};
@@ -15,7 +15,7 @@ use echo_links::LinkFile;
 use std::alloc::{AllocError, Global};
 
 /// How a system is marked.
-#[derive(Clone, Copy, Debug, PartialEq, Eq)]
+#[derive(Clone, Copy)]
 pub enum Mark {
     /// Nothing is wrong with it.
     Plain,
@@ -26,7 +26,7 @@ pub enum Mark {
 }
 
 /// Which ends of a link list it.
-#[derive(Clone, Copy, Debug, PartialEq, Eq)]
+#[derive(Clone, Copy)]
 pub enum Sides {
     Both,
     First,
@@ -34,7 +34,7 @@ pub enum Sides {
 }
 
 /// A drawn system.
-#[derive(Clone, Copy, Debug, PartialEq, Eq)]
+#[derive(Clone, Copy)]
 pub struct DrawnSystem {
     pub system: Address,
     /// Whether it carries the area; if not, a carrier lists it.
@@ -43,7 +43,7 @@ pub struct DrawnSystem {
 }
 
 /// A drawn link, its smaller end first.
-#[derive(Clone, Copy, Debug, PartialEq, Eq)]
+#[derive(Clone, Copy)]
 pub struct DrawnLink {
     pub one: Address,
     pub other: Address,
@@ -53,14 +53,14 @@ pub struct DrawnLink {
 }
 
 /// The systems and links of an area, ascending, each once.
-#[derive(Debug, Drop)]
+#[derive(Drop)]
 pub struct Drawing {
     pub systems: Items<DrawnSystem>,
     pub links: Items<DrawnLink>,
 }
 
 /// A message that crosses a link: its step, the sender and the receiver.
-#[derive(Clone, Copy, Debug, PartialEq, Eq)]
+#[derive(Clone, Copy)]
 pub struct Crossing {
     pub step: usize,
     pub from: Address,
@@ -154,7 +154,7 @@ fn upward(link: Link) -> Link
 }
 
 /// The link the other way.
-pub(crate) fn back(link: Link) -> Link
+pub fn back(link: Link) -> Link
     ensures { result ≡ back link }
 {
     Link {
@@ -225,7 +225,7 @@ fn steps_around(alloc: Global, round: &[Address]) -> Result<Vec<Link>, AllocErro
 }
 
 /// Is the address one of these, which ascend?
-pub(crate) fn has_address(all: &[Address], address: Address) -> bool
+pub fn has_address(all: &[Address], address: Address) -> bool
     requires { IsStrictlySortedBy ⟦<Address as Ord>⟧.cmp all.now }
     ensures { result ≡ drawn.has_address all.now address }
 {
@@ -233,7 +233,7 @@ pub(crate) fn has_address(all: &[Address], address: Address) -> bool
 }
 
 /// Is the link one of these, which ascend?
-pub(crate) fn has_link(all: &[Link], link: Link) -> bool
+pub fn has_link(all: &[Link], link: Link) -> bool
     requires { IsStrictlySortedBy ⟦<Link as Ord>⟧.cmp all.now }
     ensures { result ≡ drawn.has_link all.now link }
 {

@@ -10,7 +10,7 @@ ghost use Rattle.echo_net.specs.AllFaults.{AddsLinkFaults, AddsTwoFiles, AreAllF
 ghost use Rattle.echo_net.specs.{declared.link.Link.Link, declared.verdict.NetFault.NetFault, Faults.IfNo, Faults.IsFirstFault};
 
 use crate::area::{AreaGraph, collect_area};
-use crate::carriers::systems;
+use crate::area_lists::systems;
 use crate::drawing::{back, has_address, has_link};
 use crate::graph_faults::{area_graph, push_pieces};
 use crate::link::Link;

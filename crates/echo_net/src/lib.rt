@@ -5,14 +5,13 @@
 //! a nodelist does not hold.
 //!
 //! Begin with `checker` (the whole) and `verdict` (the answer and the faults). `area` has the systems and links
-//! of an area, by `carriers`, `link` and `searching`. `owners`, `first_links` and `same_net_node` decide by
+//! of an area, by `area_lists`, `link` and `searching`. `owners`, `first_links` and `same_net_node` decide by
 //! sorted addresses, `link_faults` takes the first of their faults, `each_fault` all of them. `rows` and
 //! `graph_faults` check the net as a graph. `presence` compares carriers with a nodelist, `drawing` draws an area.
-//! `listing` has the systems that an area lists, and `parts` the parts of an area.
 #![tactic(auto)]
 
 mod area;
-mod carriers;
+mod area_lists;
 mod checker;
 mod drawing;
 mod each_fault;
@@ -20,19 +19,21 @@ mod first_links;
 mod graph_faults;
 mod link;
 mod link_faults;
-mod listing;
 mod owners;
-mod parts;
 mod presence;
 mod rows;
 mod same_net_node;
 mod searching;
 mod verdict;
 
+pub use area_lists::{carriers, links, systems};
 pub use checker::{check, check_area, shared_system};
-pub use drawing::{Crossing, Drawing, DrawnLink, DrawnSystem, Mark, Sides, draw};
+pub use drawing::{
+    Crossing, Drawing, DrawnLink, DrawnSystem, Mark, Sides, back, draw, has_address, has_link,
+};
 pub use each_fault::{all_faults, further};
-pub use listing::{Listing, missing};
-pub use parts::cut_parts;
+pub use link::Link;
 pub use presence::{Absence, listed};
+pub use rows::outgoing_links;
+pub use searching::place;
 pub use verdict::{NetFault, Verdict};

@@ -6,14 +6,14 @@ ghost use Rattle.echo_filed.specs.Sets.{address_before};
 ghost use Rattle.model_run.specs.Tidy.{Carries};
 ghost use Rattle.echo_net.specs.{declared.presence.Absence.Absence, Absent.IsAbsent, Absent.IsReasonOfAbsence, Absent.absent_as, Absent.is_down_line};
 
-use crate::carriers::carriers;
+use crate::area_lists::carriers;
 use echo_addr::Address;
 use echo_links::LinkFile;
 use echo_nodelist::{Keyword, Line, Nodelist};
 use std::alloc::{AllocError, Global};
 
 /// Why a nodelist does not hold a system.
-#[derive(Clone, Copy, Debug, PartialEq, Eq)]
+#[derive(Clone, Copy)]
 pub enum Absence {
     /// No line has its address.
     Missing,

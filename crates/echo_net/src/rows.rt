@@ -4,7 +4,7 @@ ghost use Rattle.std.specs.{Prelude.{◌≡◌, ◌<◌, ◌↔◌, ℕ, IfOk, C
 ghost use Rattle.model_graph.specs.{Rows.IsAscending, Walk.IsAt};
 ghost use Rattle.echo_net.specs.{declared.link.Link.Link, Rows.AreRows};
 
-use crate::carriers::is_before;
+use crate::area_lists::is_before;
 use crate::link::Link;
 use crate::searching::place_near;
 use echo_addr::{Address, put_in_order};

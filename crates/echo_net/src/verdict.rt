@@ -2,7 +2,7 @@ use echo_addr::{Address, Items};
 use std::fmt;
 
 /// Whether an area of a net is in order.
-#[derive(Debug, Drop)]
+#[derive(Drop)]
 pub enum Verdict {
     /// It is, with this many systems and pairs of linked systems.
     Yes { systems: usize, links: u128 },
@@ -11,7 +11,7 @@ pub enum Verdict {
 }
 
 /// Why an area of a net is not in order.
-#[derive(Debug, Drop)]
+#[derive(Drop)]
 pub enum NetFault {
     /// No file has the area.
     NoSuchArea,

@@ -1,7 +1,7 @@
 use echo_addr::Address;
 
 /// What may follow a posting.
-#[derive(Clone, Copy, Debug, PartialEq, Eq)]
+#[derive(Clone, Copy)]
 pub enum Move {
     /// The system of this index scans, at midnight, the first of January 2000.
     Scan(usize),
@@ -10,7 +10,7 @@ pub enum Move {
 }
 
 /// A guess of what goes wrong; systems go by their index.
-#[derive(Clone, Copy, Debug, PartialEq, Eq)]
+#[derive(Clone, Copy)]
 pub enum Guess {
     /// The system is sent the message again.
     Again(usize),

@@ -1,8 +1,7 @@
 use Rattle.std.{proofs.{Common.{inr, refl}, lemmas.Result.err_from_is_err_and}, specs.Option.option_copied}
-use Rattle.echo_net.specs.Listings.{IsListing}
+use Rattle.cmd_suppose.{specs.Listings.IsListing, proofs.Zips.zip_length}
 use Rattle.cmd_status.specs.Devices.{output_of}
 use Rattle.cmd_check.proofs.Judgements.{supposed_refused, was_judged}
-use Rattle.cmd_suppose.proofs.Zips.{zip_length}
 use Rattle.cmd_check.proofs.supposing.check_read.Goals as goal
 
 pub read_supposed-requires : goal.read_supposed-requires

@@ -1,5 +1,5 @@
-use Rattle.echo_net.proofs.Listers.{listing_turned}
-use Rattle.echo_net.proofs.listing.backs.Goals as goal
+use Rattle.cmd_suppose.proofs.Listers.{listing_turned}
+use Rattle.cmd_suppose.proofs.listing.backs.Goals as goal
 
 pub returns : goal.returns
 returns c =

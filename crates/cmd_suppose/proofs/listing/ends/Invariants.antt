@@ -1,6 +1,6 @@
 use Rattle.std.proofs.Common.{◌≡◌, map, take}
 use Rattle.echo_net.specs.declared.link.Link.{Link}
-use Rattle.echo_net.proofs.listing.ends.Given as goal
+use Rattle.cmd_suppose.proofs.listing.ends.Given as goal
 
 abbrev pub invariant-links : goal.invariant-links
 invariant-links l = l.all.items ≡ map (λ (m : Link). m.to) (take l.link-index l.links)

@@ -1,5 +1,6 @@
-use Rattle.echo_net.{proofs.Listers.missing_held, specs.Nets.systems}
-use Rattle.echo_net.proofs.listing.missing.Goals as goal
+use Rattle.echo_net.specs.Nets.{systems}
+use Rattle.cmd_suppose.proofs.Listers.{missing_held}
+use Rattle.cmd_suppose.proofs.listing.missing.Goals as goal
 
 pub returns-clause-members : goal.returns-clause-members
 returns-clause-members c =

@@ -1,6 +1,6 @@
 use Rattle.std.proofs.Common.{◌≡◌, map, take}
 use Rattle.echo_net.specs.Drawn.{back}
-use Rattle.echo_net.proofs.listing.turned.Given as goal
+use Rattle.cmd_suppose.proofs.listing.turned.Given as goal
 
 abbrev pub invariant-links : goal.invariant-links
 invariant-links l = l.all.items ≡ map back (take l.link-index l.links)

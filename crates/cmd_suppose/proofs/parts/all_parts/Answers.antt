@@ -1,7 +1,8 @@
 use Rattle.std.proofs.Common.{List, refl}
 use Rattle.echo_addr.specs.declared.address.Address.{Address}
-use Rattle.echo_net.{specs.{declared.link.Link.Link, Parts.{AreBothWays, linked_both}}, proofs.Groups.{both_held, ends_carry, labels_below, parts_grouped}}
-use Rattle.echo_net.proofs.parts.all_parts.Goals as goal
+use Rattle.echo_net.specs.declared.link.Link.{Link}
+use Rattle.cmd_suppose.{specs.Parts.{AreBothWays, linked_both}, proofs.Groups.{both_held, ends_carry, labels_below, parts_grouped}}
+use Rattle.cmd_suppose.proofs.parts.all_parts.Goals as goal
 
 pub grouped-requires-clause-same_length : goal.grouped-requires-clause-same_length
 grouped-requires-clause-same_length c =

@@ -1,7 +1,7 @@
 -- Those of the links so far that both ends list.
 use Rattle.std.proofs.Common.{◌≡◌, filter, take}
 use Rattle.echo_net.specs.Drawn.{back, has_link}
-use Rattle.echo_net.proofs.parts.both_ways.Given as goal
+use Rattle.cmd_suppose.proofs.parts.both_ways.Given as goal
 
 abbrev pub invariant-links : goal.invariant-links
 invariant-links l = l.both.items ≡ filter (λ m. has_link l.links (back m)) (take l.link-index l.links)

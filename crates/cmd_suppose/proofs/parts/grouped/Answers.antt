@@ -1,8 +1,8 @@
 use Rattle.std.proofs.Common.{◌+◌, ℕ, List, subst, sym}
 use Rattle.echo_addr.specs.declared.address.Address.{Address}
-use Rattle.echo_net.{specs.Parts.{AreGrouped, IsGroup}, proofs.Groups.{group_listed, group_more, group_same}}
-use Rattle.echo_net.proofs.parts.grouped.Goals.{then-labels-place+in_ok-part+in_ok-push, else-labels-place}
-use Rattle.echo_net.proofs.parts.grouped.Goals as goal
+use Rattle.cmd_suppose.{specs.Parts.{AreGrouped, IsGroup}, proofs.Groups.{group_listed, group_more, group_same}}
+use Rattle.cmd_suppose.proofs.parts.grouped.Goals.{then-labels-place+in_ok-part+in_ok-push, else-labels-place}
+use Rattle.cmd_suppose.proofs.parts.grouped.Goals as goal
 
 pub places-preserved : goal.places-preserved
 places-preserved c =

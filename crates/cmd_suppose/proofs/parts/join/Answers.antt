@@ -1,5 +1,5 @@
 use Rattle.std.proofs.{Common.{◌<◌, ◌∙◌, ℕ, List, inl, inr, length, sym, arith}, lemmas.List.get_or_default}
-use Rattle.echo_net.proofs.parts.join.Goals as goal
+use Rattle.cmd_suppose.proofs.parts.join.Goals as goal
 
 pub returns-then-near-far-clause-joins : goal.returns-then-near-far-clause-joins
 returns-then-near-far-clause-joins c =

@@ -1,8 +1,8 @@
 -- The links so far are settled.
 use Rattle.std.proofs.Common.{◌≡◌, Bool, length, take}
 use Rattle.echo_addr.specs.declared.address.Address.{Address}
-use Rattle.echo_net.specs.Parts.{AreBothWays, AreLabels, AreSettled}
-use Rattle.echo_net.proofs.parts.labels.Given as goal
+use Rattle.cmd_suppose.specs.Parts.{AreBothWays, AreLabels, AreSettled}
+use Rattle.cmd_suppose.proofs.parts.labels.Given as goal
 
 abbrev pub invariant-links : goal.invariant-links
 invariant-links l = record {

@@ -1,6 +1,6 @@
 -- The first of the largest parts so far.
 use Rattle.std.proofs.Common.{◌<◌, ◌≤◌, [], ℕ, get_or, length}
-use Rattle.echo_net.proofs.parts.largest.Given as goal
+use Rattle.cmd_suppose.proofs.parts.largest.Given as goal
 
 abbrev pub invariant-parts : goal.invariant-parts
 invariant-parts l = record {

@@ -1,6 +1,6 @@
 -- The places so far.
 use Rattle.std.proofs.Common.{◌≡◌, ◌<◌, ℕ, get_or, length}
-use Rattle.echo_net.proofs.parts.own_places.Given as goal
+use Rattle.cmd_suppose.proofs.parts.own_places.Given as goal
 
 abbrev pub invariant-places : goal.invariant-places
 invariant-places l = record {

@@ -1,7 +1,8 @@
 use Rattle.std.{proofs.Common.{◌≡◌, ◌↔◌, ℕ, List, get_or, length, refl, subst, arith}, specs.Prelude.Contains}
 use Rattle.echo_addr.specs.declared.address.Address.{Address}
-use Rattle.echo_net.{specs.{declared.link.Link.Link, Nets.link, Parts.ArePaired, Rows.system_at}, proofs.Groups.pair_more}
-use Rattle.echo_net.proofs.parts.pairs.Goals as goal
+use Rattle.echo_net.specs.{declared.link.Link.Link, Nets.link, Rows.system_at}
+use Rattle.cmd_suppose.{specs.Parts.ArePaired, proofs.Groups.pair_more}
+use Rattle.cmd_suppose.proofs.parts.pairs.Goals as goal
 
 pub places-preserved : goal.places-preserved
 places-preserved c =

@@ -1,7 +1,7 @@
 -- The labels so far are relabeled, and the others unchanged.
 use Rattle.std.proofs.Common.{◌≡◌, ◌<◌, ◌≤◌, ℕ, get_or, length}
-use Rattle.echo_net.specs.Parts.{relabeled}
-use Rattle.echo_net.proofs.parts.relabel.Given as goal
+use Rattle.cmd_suppose.specs.Parts.{relabeled}
+use Rattle.cmd_suppose.proofs.parts.relabel.Given as goal
 
 abbrev pub invariant-places : goal.invariant-places
 invariant-places l = record {

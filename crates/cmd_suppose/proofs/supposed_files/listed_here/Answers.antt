@@ -1,8 +1,7 @@
 use Rattle.std.proofs.{Common.List, Common.get_or, Common.sym, lemmas.List.get_or_default}
 use Rattle.echo_addr.specs.declared.address.Address.{Address}
 use Rattle.echo_links.specs.LinkLines.{no_address}
-use Rattle.echo_net.specs.Listings.{is_listed}
-use Rattle.cmd_suppose.proofs.Zips.{kept_next}
+use Rattle.cmd_suppose.{specs.Listings.is_listed, proofs.Zips.kept_next}
 use Rattle.cmd_suppose.proofs.supposed_files.listed_here.Goals as goal
 
 pub assumed-preserved : goal.assumed-preserved

@@ -1,6 +1,5 @@
 use Rattle.std.proofs.Common.{◌∙◌, sym}
-use Rattle.echo_net.specs.Listings.{is_listed}
-use Rattle.cmd_suppose.proofs.Zips.{kept_one, lost_one}
+use Rattle.cmd_suppose.{specs.Listings.is_listed, proofs.Zips.{kept_one, lost_one}}
 use Rattle.cmd_suppose.proofs.supposed_files.push_listed.Goals as goal
 
 pub returns-in_ok-push : goal.returns-in_ok-push

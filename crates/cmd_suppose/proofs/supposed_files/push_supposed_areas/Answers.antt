@@ -1,6 +1,5 @@
 use Rattle.std.proofs.Common.{arith}
-use Rattle.echo_net.specs.Listings.{IsListing}
-use Rattle.cmd_suppose.proofs.{SupposedTexts.lines_begun, SupposedTexts.lines_next, Zips.zip_length, Zips.zip_read}
+use Rattle.cmd_suppose.{specs.Listings.IsListing, proofs.{SupposedTexts.{lines_begun, lines_next}, Zips.{zip_length, zip_read}}}
 use Rattle.cmd_suppose.proofs.supposed_files.push_supposed_areas.Goals as goal
 
 pub areas-init : goal.areas-init

@@ -1,6 +1,6 @@
 use Rattle.std.proofs.Common.{arith}
 use Rattle.echo_net.proofs.Collected.{carries_listed}
-use Rattle.echo_net.proofs.carriers.carriers.Goals as goal
+use Rattle.echo_net.proofs.area_lists.carriers.Goals as goal
 
 pub returns-clause-members : goal.returns-clause-members
 returns-clause-members c = λ a.

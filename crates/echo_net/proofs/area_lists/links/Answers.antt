@@ -1,6 +1,6 @@
 use Rattle.std.proofs.Common.{arith}
 use Rattle.echo_net.proofs.Collected.{links_listed}
-use Rattle.echo_net.proofs.carriers.links.Goals as goal
+use Rattle.echo_net.proofs.area_lists.links.Goals as goal
 
 pub returns-clause-members : goal.returns-clause-members
 returns-clause-members c = λ l.

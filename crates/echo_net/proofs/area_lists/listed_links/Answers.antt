@@ -1,7 +1,7 @@
 use Rattle.std.{proofs.Common.{◌++◌, sym, ap, ◌∙◌, List, take, subst}, specs.List.flat_map}
 use Rattle.echo_links.specs.Links.{IsFile, LinkFile}
 use Rattle.echo_net.{specs.{declared.link.Link.Link, Nets.links_from_file}, proofs.{Orders.one_more, Collected.flat_map_take}}
-use Rattle.echo_net.proofs.carriers.listed_links.Goals as goal
+use Rattle.echo_net.proofs.area_lists.listed_links.Goals as goal
 
 pub files-preserved : goal.files-preserved
 files-preserved c =

@@ -1,7 +1,7 @@
 use Rattle.std.{proofs.Common.{◌≡◌, ◌<◌, ℕ, get_or, take}, specs.List.flat_map}
 use Rattle.echo_links.specs.Links.{IsFile, LinkFile}
 use Rattle.echo_net.specs.Nets.{links_from_file}
-use Rattle.echo_net.proofs.carriers.listed_links.Given as goal
+use Rattle.echo_net.proofs.area_lists.listed_links.Given as goal
 
 abbrev pub invariant-files : goal.invariant-files
 invariant-files l = record {

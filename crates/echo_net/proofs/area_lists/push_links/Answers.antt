@@ -1,6 +1,6 @@
 use Rattle.std.proofs.{Common.arith, lemmas.List.append-nil}
 use Rattle.echo_net.proofs.Collected.{links_found}
-use Rattle.echo_net.proofs.carriers.push_links.Goals as goal
+use Rattle.echo_net.proofs.area_lists.push_links.Goals as goal
 
 pub returns-in-Some-clause-links : goal.returns-in-Some-clause-links
 returns-in-Some-clause-links = grind (arith, links_found)

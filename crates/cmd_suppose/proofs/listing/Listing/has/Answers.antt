@@ -1,6 +1,6 @@
 use Rattle.std.proofs.Common.{refl}
-use Rattle.echo_net.proofs.Listers.{run_reports}
-use Rattle.echo_net.proofs.listing.Listing.has.Goals as goal
+use Rattle.cmd_suppose.proofs.Listers.{run_reports}
+use Rattle.cmd_suppose.proofs.listing.Listing.has.Goals as goal
 
 pub returns : goal.returns
 returns c = λ files tag listing.

@@ -1,6 +1,7 @@
 use Rattle.std.proofs.Common.{List, map}
-use Rattle.echo_net.{specs.declared.link.Link.Link, proofs.{Drawings.held_again, Listers.run_ends}}
-use Rattle.echo_net.proofs.listing.Listing.listers.Goals as goal
+use Rattle.echo_net.{specs.declared.link.Link.Link, proofs.Drawings.held_again}
+use Rattle.cmd_suppose.proofs.Listers.{run_ends}
+use Rattle.cmd_suppose.proofs.listing.Listing.listers.Goals as goal
 
 pub returns-clause-members : goal.returns-clause-members
 returns-clause-members c = λ b.
