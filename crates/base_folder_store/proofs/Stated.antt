@@ -71,9 +71,9 @@ read_cause s t P before now r cause answers sound = record {
   undamaged = sound;
 }
 
-pub sound_kept : {T : Type 0} {a b : Bool} (r : Result T StoreError) → OnOk r (b ≡ a) → OnOk r (a ≡ false → b ≡ false)
-sound_kept (Ok value) same = λ was. same ∙ was
-sound_kept (Err e) same = tt
+pub sound_kept : {T : Type 0} (a b : Bool) (r : Result T StoreError) → OnOk r (b ≡ a) → OnOk r (a ≡ false → b ≡ false)
+sound_kept a b (Ok value) same = λ was. same ∙ was
+sound_kept a b (Err e) same = tt
 
 pub answered : {T : Type 0} (P : T → Type 0) (r : Result T StoreError) → Answers P r → IfOk r P
 answered P (Ok value) was = was

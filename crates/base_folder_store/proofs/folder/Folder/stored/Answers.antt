@@ -1,4 +1,4 @@
-use Rattle.std.{proofs.Common.{◌≡◌, ◌<◌, ◌-◌, ◌/◌, ℕ, List, length, min, subst, arith}, specs.{Prelude.Vec, declared.alloc.Global.Global}}
+use Rattle.std.{proofs.Common.{◌≡◌, ◌<◌, ◌-◌, ◌/◌, ℕ, length, min, subst, arith}, specs.{Prelude.Vec, declared.alloc.Global.Global}}
 use Rattle.base_store.specs.Keys.{HasBytesOf, IsPieceOf}
 use Rattle.echo_filed.specs.{Stored.Stored, Stored.stored_bytes, declared.stored.Version.TheVariants.Second}
 use Rattle.base_log.specs.Standing.{BaseBytes}

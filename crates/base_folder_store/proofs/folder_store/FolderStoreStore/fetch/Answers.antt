@@ -1,7 +1,9 @@
 use Rattle.std.{proofs.{Common.{◌≡◌, inl, Some, sym, true, arith}, lemmas.Result.err_from_is_err_and}, specs.Prelude.slice_get}
 use Rattle.base_file.specs.Base.{Base}
 use Rattle.echo_filed.specs.Filed.{Filed}
-use Rattle.base_folder_store.specs.{State.IsCached, State.state_of, State.where_so, Opened.held_by}
+use Rattle.disk_io.specs.{Disk.{DiskState, Honestly}, Runs.ChangesNothing}
+use Rattle.base_store.specs.declared.index.Index.{Index}
+use Rattle.base_folder_store.specs.{Ahead.AreParts, State.IsCached, State.state_of, State.where_so, Opened.held_by, declared.folder.Folder.Folder, declared.read_ahead.Buffers.Buffers}
 use Rattle.base_folder_store.proofs.{Bases.recorded_where, Causes.handed_on, Legible.held_quiet, Legible.legible_open, Cached.indexed_held, Cached.parts_held, Seen.many_messages}
 use Rattle.base_folder_store.proofs.{Stated.handed_cause, Stated.looks, Stated.none_there, WhereSo.looks_where}
 use Rattle.base_folder_store.proofs.folder_store.FolderStoreStore.fetch.Goals as goal
@@ -30,8 +32,18 @@ returns-clause-fetched g c = λ honest base holds.
     let was = c.in_ok-message.ensures.quiet.honest honest in
     sym (c.in_ok-message.ensures.read honest base.messages (recorded_where keyed (held_by d s.folder) base holds) (c.requires.within was base holds))
 
+cached_after : (d e : DiskState) (f : Folder) (i : Index) (b h : Buffers) → ChangesNothing d e → IsCached d f i b → Honestly e (AreParts (held_by d f).messages (held_by d f).keys h) → IsCached e f i h
+cached_after d e f i b h quiet was parts honest = let same = held_quiet d e f quiet in (indexed_held d e f f i same (was (quiet.honest honest)).0, parts_held d e f f h same (parts honest))
+
 pub returns-in_err-message-clause-looks : goal.returns-in_err-message-clause-looks
-returns-in_err-message-clause-looks g c = grind (arith, looks_where, looks, held_quiet, indexed_held, parts_held)
+returns-in_err-message-clause-looks g c =
+    let s = c.args.self.now in
+    let d = g.D.Disk.state s.disk in
+    let e = g.D.Disk.state c.read.new.disk in
+    let keyed = g.H.Digest.keyed in
+    let gone = c.take-gone.new.self in
+    looks_where (state_of d keyed s.folder s.message) (state_of e keyed s.folder gone) (IsCached d s.folder s.index s.buffers) (IsCached e s.folder s.index c.read.new.buffers) s.unread true
+    (looks d e keyed s.folder s.message gone c.requires.ready.0 c.read.ensures.quiet) (cached_after d e s.folder s.index s.buffers c.read.new.buffers c.read.ensures.quiet c.requires.ready.1 c.read.ensures.parts) (λ is. absurd (cc))
 
 pub returns-clause-looks : goal.returns-clause-looks
 returns-clause-looks g c =
@@ -39,12 +51,9 @@ returns-clause-looks g c =
     let d = g.D.Disk.state s.disk in
     let e = g.D.Disk.state c.read.new.disk in
     let keyed = g.H.Digest.keyed in
-    looks_where (state_of d keyed s.folder s.message) (state_of e keyed s.folder (Some c.in_ok-message.message)) (IsCached d s.folder s.index s.buffers) (IsCached e s.folder s.index c.read.new.buffers) s.unread s.unread
-    (looks d e keyed s.folder s.message (Some c.in_ok-message.message) c.requires.ready.0 c.read.ensures.quiet) (λ honest.
-    let same = held_quiet d e s.folder c.read.ensures.quiet in (
-      indexed_held d e s.folder s.folder s.index same (c.requires.ready.1 (c.read.ensures.quiet.honest honest)).0,
-      parts_held d e s.folder s.folder c.read.new.buffers same (c.read.ensures.parts honest),
-    )) (λ is. is)
+    let message = Some c.in_ok-message.message in
+    looks_where (state_of d keyed s.folder s.message) (state_of e keyed s.folder message) (IsCached d s.folder s.index s.buffers) (IsCached e s.folder s.index c.read.new.buffers) s.unread s.unread
+    (looks d e keyed s.folder s.message message c.requires.ready.0 c.read.ensures.quiet) (cached_after d e s.folder s.index s.buffers c.read.new.buffers c.read.ensures.quiet c.requires.ready.1 c.read.ensures.parts) (λ is. is)
 
 pub read-requires-clause-legible : goal.read-requires-clause-legible
 read-requires-clause-legible g c honest = legible_open (g.D.Disk.state c.args.self.now.disk) c.args.self.now.folder (c.requires.ready.0.opened honest)

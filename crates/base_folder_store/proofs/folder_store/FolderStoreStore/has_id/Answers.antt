@@ -11,8 +11,8 @@ returns-clause-found g c = λ honest base holds.
     let s = c.args.self.now in
     let d = g.D.Disk.state s.disk in
     let keyed = g.H.Digest.keyed in
-    answered (λ (found : Bool). found ≡ list_any (has_id c.args.msgid.now) base.messages) c.find.result
-    (c.find.ensures.found honest base.messages (recorded_where keyed (held_by d s.folder) base holds)
+    answered (λ (found : Bool). found ≡ list_any (has_id c.args.msgid.now) base.messages) c.find-found.result
+    (c.find-found.ensures.found honest base.messages (recorded_where keyed (held_by d s.folder) base holds)
     (id_digest keyed (held_by d s.folder) base c.args.msgid.now c.digest-digest.result holds c.digest-digest.ensures))
 
 pub returns-clause-cause : goal.returns-clause-cause
@@ -20,17 +20,17 @@ returns-clause-cause g c =
     let s = c.args.self.now in
     let d = g.D.Disk.state s.disk in
     let keyed = g.H.Digest.keyed in
-    let e = g.D.Disk.state c.find.new.disk in
-    read_cause (where_so (state_of d keyed s.folder s.message) (IsCached d s.folder s.index s.buffers) s.unread) (where_so (state_of e keyed s.folder s.message) (IsCached e s.folder c.find.new.index s.buffers) c.note_look.new.unread) (λ (base : Base) (found : Bool). found ≡ list_any (has_id c.args.msgid.now) base.messages) (g.D.Disk.failures s.disk) (g.D.Disk.failures c.find.new.disk) c.find.result c.find.ensures.cause
-    (λ honest base holds. c.find.ensures.found honest base.messages (recorded_where keyed (held_by d s.folder) base holds)
+    let e = g.D.Disk.state c.find-found.new.disk in
+    read_cause (where_so (state_of d keyed s.folder s.message) (IsCached d s.folder s.index s.buffers) s.unread) (where_so (state_of e keyed s.folder s.message) (IsCached e s.folder c.find-found.new.index s.buffers) c.note_look.new.unread) (λ (base : Base) (found : Bool). found ≡ list_any (has_id c.args.msgid.now) base.messages) (g.D.Disk.failures s.disk) (g.D.Disk.failures c.find-found.new.disk) c.find-found.result c.find-found.ensures.cause
+    (λ honest base holds. c.find-found.ensures.found honest base.messages (recorded_where keyed (held_by d s.folder) base holds)
     (id_digest keyed (held_by d s.folder) base c.args.msgid.now c.digest-digest.result holds c.digest-digest.ensures))
-    (sound_kept c.find.result c.note_look.ensures.ended)
+    (sound_kept s.unread c.note_look.new.unread c.find-found.result c.note_look.ensures.ended)
 
-pub find-requires-clause-legible : goal.find-requires-clause-legible
-find-requires-clause-legible g c honest = legible_open (g.D.Disk.state c.args.self.now.disk) c.args.self.now.folder (c.requires.0.opened honest)
+pub find-found-requires-clause-legible : goal.find-found-requires-clause-legible
+find-found-requires-clause-legible g c honest = legible_open (g.D.Disk.state c.args.self.now.disk) c.args.self.now.folder (c.requires.0.opened honest)
 
 pub returns-clause-looks : goal.returns-clause-looks
 returns-clause-looks g c = grind (arith, looks_where, looks, held_quiet, indexed_held, parts_held)
 
 pub returns-clause-many : goal.returns-clause-many
-returns-clause-many g c is = inl (inl (c.find.ensures.many is))
+returns-clause-many g c is = inl (inl (c.find-found.ensures.many is))

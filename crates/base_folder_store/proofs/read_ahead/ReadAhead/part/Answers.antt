@@ -1,4 +1,4 @@
-use Rattle.std.proofs.Common.{◌-◌, arith}
+use Rattle.std.proofs.Common.{arith}
 use Rattle.base_folder_store.proofs.Ahead.{part_is}
 use Rattle.base_folder_store.proofs.read_ahead.ReadAhead.part.Goals as goal
 
