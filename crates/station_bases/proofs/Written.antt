@@ -4,7 +4,7 @@ use Rattle.base_file.specs.Base.{Base}
 use Rattle.disk_io.{specs.{Disk.{DiskState, Files, Honestly}, Runs.{ChangesNothing, LeavesOnly, OneStepOn}}, proofs.Moments.weaker_run}
 use Rattle.disk_atomic.specs.{Changes.ChangesOnly, Changes.HasOnDisk, Replacing.Replaces, StagingPaths.staging_path}
 use Rattle.cmd_status.specs.Inputs.{IsBaseGiven}
-use Rattle.base_store.specs.Store.{CommitsNothing, IsSameStore, KeepsOthers, MayCommit, StoreState}
+use Rattle.base_store.specs.Store.{CommitsNothing, IsSameStore, KeepsOthers, LeavesEither, MayCommit, StoreState}
 use Rattle.station_bases.specs.{InFile.{IsHeld, IsInFile, IsOfFile, PutsBase, RepresentsInFile, file_state}, declared.held.Held.Held}
 
 pub represented_now : (path bytes : List ℕ) (base : Base) (c : Files) → IsBaseGiven (Some bytes) base.messages base.cursor → c path ≡ Some bytes → RepresentsInFile path base c
@@ -34,6 +34,13 @@ module _ {S T : Type 0} (path own : List ℕ) (held later : Held S T) (d0 d1 : D
   pub quiet_commits : ChangesNothing d0 d1 → CommitsNothing old new
   quiet_commits quiet = grind (arith, weaker_run, quiet_others, same)
 
+  leaves_either : (first next : Base) → IsInFile d0 path first → (c : Files) → OneStepOn (PutsBase path own next) d0 c → LeavesEither old first next c
+  leaves_either first next was c step = grind arith
+
   -- a crash during a commit leaves the base committed before, or the new one
   pub may_commit : ChangesOnly (IsOfFile path own) d0 d1 → (Honestly d1 ((b : Base) → IsHeld d0 path held b → LeavesOnly d0 d1 (OneStepOn (PutsBase path own b) d0))) → MayCommit old new
-  may_commit changes run = grind (arith, weaker_run, same)
+  may_commit changes run = record {
+    any_moment = λ honest first next was now. weaker_run d0 d1 (OneStepOn (PutsBase path own next) d0) (LeavesEither old first next) (run honest next now) (leaves_either first next was);
+    others = record { seen = changes.seen; named = changes.named; flushed = changes.flushed; alone = changes.alone; honest = changes.honest };
+    same = same;
+  }

@@ -1,5 +1,5 @@
 //! A base file on a disk, as a store.
-ghost use Rattle.std.specs.Prelude.{◌≡◌, IsErrOf, OnOk};
+ghost use Rattle.std.specs.Prelude.{◌≡◌, false, IsErrOf, OnOk};
 ghost use Rattle.disk_io.specs.{Disk.Honestly, Runs.ChangesNothing};
 ghost use Rattle.base_file.specs.Base.{Base as TheBase};
 ghost use Rattle.base_store.specs.Store.{HasStoreCause};
