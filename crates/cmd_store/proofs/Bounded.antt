@@ -1,8 +1,8 @@
 -- Commands on a store that holds too much.
-use Rattle.std.{proofs.Common.{List, ℕ, Option, Result, Ok, Err, sym, ◌∙◌, arith}, specs.Prelude.IsErrOf}
+use Rattle.std.{proofs.Common.{List, ℕ, Option, Result, Ok, Err, inl, inr, ⊎_elim, sym, ◌∙◌, arith}, specs.Prelude.IsErrOf}
 use Rattle.base_file.specs.Base.{Base}
 use Rattle.disk_io.{specs.Disk.{Files, Honestly}, proofs.Moments.then_run}
-use Rattle.base_store.specs.Store.{CommitsNothing, GoesOn, IsSameStore, KeepsOthers, KeepsOrCommits, MayCommit, SameOtherFiles, StoreState}
+use Rattle.base_store.specs.Store.{CommitsNothing, GoesOn, IsSameStore, KeepsOthers, KeepsOrCommits, LeavesCommitted, LeavesEither, MayCommit, SameOtherFiles, StoreState}
 use Rattle.base_store.specs.declared.store_error.StoreError.{StoreError, TheVariants.TooMany}
 use Rattle.base_store.proofs.Runs.{commits_none, same_twice, others_twice as kept_twice}
 use Rattle.cmd_status.specs.declared.fault.Fault.{Fault}
@@ -25,7 +25,21 @@ stood_before old mid c same kept others m other named flushed =
     others m (λ own. other ((same.own m).0 own)) (kept.named m other named) (kept.flushed m other flushed) ∙ kept.seen m other
 
 pub may_then_nothing : (old mid new : StoreState) → MayCommit old mid → Honestly mid.disk (KeepsOrCommits old mid) → CommitsNothing mid new → MayCommit old new
-may_then_nothing old mid new may done none = grind (arith, then_run, stood_before, kept_twice, same_twice)
+may_then_nothing old mid new may done none = record {
+  any_moment = λ honest first next was kept.
+      let before = none.others.honest honest in
+      let run = may.any_moment before first next was kept in
+      let stood = λ (base : Base) (c : Files) (left : LeavesCommitted mid base c). stood_before old mid c may.same may.others left.others in
+      let shown = λ (base : Base) (c : Files) (left : LeavesCommitted mid base c). (may.same.represented base c).0 left.represented in
+      ⊎_elim
+      (λ (stays : (base : Base) → old.committed base → mid.committed base).
+      then_run old.disk mid.disk new.disk (LeavesEither old first next) (LeavesCommitted mid first) run (none.any_moment honest first (stays first was)) (λ c left. record { others = stood first c left; represented = inl (shown first c left) }))
+      (λ (moves : (base : Base) → old.keeps base → mid.committed base).
+      then_run old.disk mid.disk new.disk (LeavesEither old first next) (LeavesCommitted mid next) run (none.any_moment honest next (moves next kept)) (λ c left. record { others = stood next c left; represented = inr (shown next c left) }))
+      (done before);
+  others = kept_twice old mid new may.same may.others none.others;
+  same = same_twice old mid new may.same none.same;
+}
 
 stop_many : (old new : List ℕ) (tally : Tally) (why : TossStepError) (result : Result (Option Fault) StoreError) → ReportsStop old new tally why result → IsErrOf result TooMany
     → IsErrOf (toss_answer {A = Unit {0}} (Err why)) TooMany

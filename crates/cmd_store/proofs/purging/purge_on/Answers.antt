@@ -1,5 +1,5 @@
 use Rattle.std.proofs.{Common.arith, lemmas.Result.err_from_is_err_and}
-use Rattle.base_store.{specs.Store.purged, proofs.Runs.no_look}
+use Rattle.base_store.{proofs.Runs.no_look}
 use Rattle.echo_toss.proofs.Bounds.{handed_many}
 use Rattle.cmd_store.proofs.{Commits.caused_after, Commits.committed_where, Commits.looks_may, Commits.may_after, Commits.ready_where, Purges.purge_may, Purges.purge_printed, Purges.purge_then, Bounded.may_then_nothing}
 use Rattle.cmd_store.proofs.purging.purge_on.Goals as goal
