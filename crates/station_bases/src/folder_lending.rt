@@ -59,6 +59,7 @@ impl<'a, D: Disk + Drop, H: Digest> LendStation<'a, D> for FolderStation<'a, H> 
         requires off { (m : List ℕ) → (⟦<FolderStore<D, H> as Store>⟧.state kept.old).is_own m → J.changes_at job.now m → ⊥ }
         requires can { J.can_run job.now (⟦<FolderStore<D, H> as Store>⟧.state kept.old).disk }
         ensures used { IsUsedAt (J.changes_at job.now) (⟦<FolderStore<D, H> as Store>⟧.state kept.old) (⟦<FolderStore<D, H> as Store>⟧.state kept.new) }
+        ensures undamaged { (⟦<FolderStore<D, H> as Store>⟧.state kept.old).is_sound → (⟦<FolderStore<D, H> as Store>⟧.state kept.new).is_sound }
         ensures done { J.has_run job.now (⟦<FolderStore<D, H> as Store>⟧.state kept.old).disk (⟦<FolderStore<D, H> as Store>⟧.state kept.new).disk
             (⟦<FolderStore<D, H> as Store>⟧.failures kept.old) (⟦<FolderStore<D, H> as Store>⟧.failures kept.new) result }
     {
