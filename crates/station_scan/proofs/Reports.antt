@@ -164,10 +164,10 @@ unplanned_why failed taken from n (Staying left) same is = absurd is
 
 -- ---- the lines are reported
 
-pub reported : {S : Type 0} (state : S → StoreState) (source : ScanSource) (s0 s1 : StoreState) (f0 f1 : ℕ) (out now : Output) → LooksOn s0 s1 → (packets : List CountedPacket) → f0 ≤ f1 → is_stamp source.stamp ≡ true
+pub reported : {S : Type 0} (state : S → StoreState) (source : ScanSource) (s0 s1 : StoreState) (f0 f1 : ℕ) (out now : Output) → LooksOn s0 s1 → (packets : List CountedPacket) → f0 ≤ f1 → (s0.is_sound → s1.is_sound) → is_stamp source.stamp ≡ true
     → Honestly s1.disk ((base : Base) → s0.keeps base → packets ≡ map counted_of (scanned source.links.now base.messages source.from source.stamp)) → (result : Result (Unit {0}) CommandError)
     → AnswersOn (AreLines (flat_map counted_line packets)) RefusesNone out now result → store_answer result ≡ Ok tt → HasReported state source s0 s1 f0 f1 out now result
-reported state source s0 s1 f0 f1 out now looks packets later stamp counted result answer met = grind (arith, scan_printed)
+reported state source s0 s1 f0 f1 out now looks packets later sound stamp counted result answer met = grind (arith, scan_printed)
 
 -- ---- one part after another
 

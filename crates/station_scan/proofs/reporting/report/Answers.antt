@@ -10,5 +10,5 @@ returns g c =
     let s1 = g.S.Store.state c.count_packets.new.store.store in
     let out = output_of g.W.Write.contents g.W.Sink.failures g.W.Sink.holds c.args.out.now in
     let now = output_of g.W.Write.contents g.W.Sink.failures g.W.Sink.holds c.print_counted.new.out in
-    reported g.S.Store.state source s0 s1 (g.S.Store.failures c.args.store.now.store) (g.S.Store.failures c.count_packets.new.store.store) out now c.count_packets.ensures.looks c.deref.result.now c.count_packets.ensures.cause.later c.requires.stamp
+    reported g.S.Store.state source s0 s1 (g.S.Store.failures c.args.store.now.store) (g.S.Store.failures c.count_packets.new.store.store) out now c.count_packets.ensures.looks c.deref.result.now c.count_packets.ensures.cause.later c.in_ok-packets.ensures.cause.undamaged c.requires.stamp
     (λ honest base kept. c.deref.ensures.value ∙ c.in_ok-packets.ensures.packets honest base kept source.stamp) c.print_counted.result c.print_counted.ensures.answers c.print_counted.ensures.met
