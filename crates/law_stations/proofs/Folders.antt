@@ -5,7 +5,7 @@ use Rattle.disk_io.specs.Disk.{DiskState}
 use Rattle.disk_atomic.specs.StagingPaths.{staging_path}
 use Rattle.station.specs.Place.{Place}
 use Rattle.station_scan.specs.Publishing.{IsOnDisk}
-use Rattle.law_stations.specs.{Commands.Command, Commands.Post, Commands.Purge, Commands.Scan, Commands.Toss, Disks.Disks, Disks.StagingFile, Folders.FolderStays, Folders.FoldersStay, Folders.IsFolderApart, Folders.IsNoScan, Nets.Net, OnDisks.LeavesElsewhere, PacketNames.IsPacketName, PacketNames.ShowsPackets, Steps.IsAllOnDisk, Steps.MayLead}
+use Rattle.law_stations.specs.{Commands.Command, Commands.Post, Commands.Purge, Commands.Scan, Commands.Toss, Disks.Disks, Disks.StagingFile, Folders.FoldersStay, Folders.IsNoScan, Nets.Net, OnDisks.LeavesElsewhere, PacketNames.IsPacketName, PacketNames.ShowsPackets, Steps.IsAllOnDisk, Steps.MayLead}
 
 -- the packets and staging files of the net after a command that is no scan
 same-lists : (command : Option Command) (i : ℕ) (d next : Disks) → IsNoScan command → MayLead command i d next → (next.net.packets ≡ d.net.packets) × (next.staging ≡ d.staging)

@@ -1,10 +1,10 @@
 -- The example of a sequence.
-use Rattle.std.proofs.Common.{◌≡◌, ◌⊎◌, inl, inr, refl, subst, sym, ap, ◌∙◌, ℕ, zero, suc, false, List, [], ◌∷◌, length, Option, Some, None, arith}
-use Rattle.disk_io.specs.Disk.{DiskState, Files}
+use Rattle.std.proofs.Common.{◌≡◌, inl, inr, refl, subst, sym, ap, ◌∙◌, ℕ, zero, suc, false, List, [], ◌∷◌, length, Some, arith}
+use Rattle.disk_io.specs.Disk.{Files}
 use Rattle.model_steps.specs.declared.stamp.Stamp.{Stamp}
 use Rattle.model_run.{specs.Run.nth, proofs.Targets.{none_some, some_same}}
-use Rattle.law_stations.specs.{Commands.Scan, Disks.Disks, Disks.StagingFile, Nets.empty_base, Nets.new_station, OnDisks.LeavesElsewhere, OnDisks.ShowsStation, Seats.AreNeighbours, Seats.AreSeated, Seats.IsSeated, Seats.IsShared, Seats.RepresentsSeat, Seats.Seat, Seats.reach, Steps.HasEnded, Steps.WasCut, Stopping.EndsOne, Stopping.Writes}
-use Rattle.law_stations.specs.SequenceExample.{AreSame, CutScanGoesOn, ExampleDisk, Ran, Rests, base_path, example_first, example_place, example_seat, example_state, example_steps, first_files, link_path, torn_files}
+use Rattle.law_stations.specs.{Commands.Scan, Disks.Disks, Disks.StagingFile, Nets.new_station, OnDisks.LeavesElsewhere, OnDisks.ShowsStation, Seats.AreNeighbours, Seats.IsSeated, Seats.IsShared, Seats.RepresentsSeat, Seats.Seat, Seats.reach, Steps.HasEnded, Steps.WasCut, Stopping.EndsOne, Stopping.Writes}
+use Rattle.law_stations.specs.SequenceExample.{CutScanGoesOn, ExampleDisk, Ran, Rests, base_path, example_first, example_place, example_seat, example_state, first_files, link_path, torn_files}
 
 abbrev seats : List (Seat (Unit {0}))
 seats = example_seat ∷ []

@@ -1,10 +1,10 @@
 -- A sequence of steps at one station: a crash cuts a scan and leaves a torn staging file, the machine starts and stops again, and the
 -- next scan removes the file.
-use Rattle.std.specs.Prelude.{◌≡◌, ◌⊎◌, ℕ, false, List, [], ◌∷◌, Option, Some, None}
+use Rattle.std.specs.Prelude.{◌≡◌, ◌⊎◌, ℕ, List, [], ◌∷◌, Some, None}
 use Rattle.disk_io.specs.Disk.{DiskState, Files}
 use Rattle.model_steps.specs.declared.stamp.Stamp.{Stamp}
 use Rattle.station.specs.Place.{Place}
-use Rattle.law_stations.specs.{Commands.Scan, Disks.Disks, Disks.StagingFile, Disks.first_disks, Nets.empty_base, Seats.AreNeighbours, Seats.AreSeated, Seats.Seat, Steps.Crashes, Steps.Ends, Steps.GoesOn, Steps.IsCut, Steps.Step}
+use Rattle.law_stations.specs.{Commands.Scan, Disks.Disks, Disks.first_disks, Nets.empty_base, Seats.AreNeighbours, Seats.AreSeated, Seats.Seat, Steps.Crashes, Steps.Ends, Steps.GoesOn, Steps.IsCut, Steps.Step}
 
 abbrev pub link_path : List ℕ
 link_path = 108 ∷ (110 ∷ [])
