@@ -80,16 +80,14 @@ fn find_and_scan<'a, W: Sink, E: Sink>(
         Ok(found) => found,
         Err(fault) => return fault.report(errors),
     };
-    let scan = StationScan {
-        at: found.at(rt, place),
-        to,
-    };
-    scan_found(scan, &mut locks, progress, out, errors)
+    let at = found.at(rt, place);
+    scan_found(at, to, &mut locks, progress, out, errors)
 }
 
 // Scans a station with a found base, and reports the fault.
 fn scan_found<'a, L: FileLock, K: FileLock, W: Sink, E: Sink>(
-    scan: StationScan<'a>,
+    at: Station<'a>,
+    to: Outbound<'a>,
     locks: &mut Locks<L, K>,
     progress: &'a Progress<'a>,
     out: &mut W,
@@ -97,6 +95,7 @@ fn scan_found<'a, L: FileLock, K: FileLock, W: Sink, E: Sink>(
 ) -> Status
     requires { AreFree (L.held locks.old.links) (K.held locks.old.base) }
 {
+    let scan = StationScan { at, to };
     let files = ScanFiles::new(scan.at.rt, scan.at.path, scan.to.slashed, progress);
     let done = match scan.at.folder {
         Some(found) => scan_folder(scan, progress, &files, locks, found, out),
