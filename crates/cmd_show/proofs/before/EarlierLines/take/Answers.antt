@@ -1,6 +1,6 @@
 use Rattle.std.proofs.Common.{sym, ◌∙◌, arith}
 use Rattle.echo_links.proofs.LinkTaking.{IsCut, control_refused, unknown_refused, wordless_refused}
-use Rattle.cmd_show.proofs.{Judging.area_judged_so, Judging.control_word, Judging.first_is, Judging.name_judged, Judging.skipped_judged, Judging.system_judged, Judging.unknown_judged, before.Before.take.Goals.After-eq}
+use Rattle.cmd_show.proofs.{Judging.area_judged_so, Judging.control_word, Judging.first_is, Judging.name_judged, Judging.skipped_judged, Judging.system_judged, Judging.unknown_judged, before.EarlierLines.take.Goals.After-eq}
 use Rattle.cmd_show.proofs.before.EarlierLines.take.Goals as goal
 
 word_read : (c : After-eq) → IsCut c.args.line.now c.in-Some.word.now c.in-Some.rest.now
