@@ -8,7 +8,7 @@ use Rattle.disk_atomic.specs.{Finishing.EndsAs, Finishing.IsOfLeft, ListStaged.I
 use Rattle.model_graph.{specs.Walk.Among, proofs.Members.{Among-append_cases, Among-append_left, Among-append_right, Among-from_Contains}}
 use Rattle.model_run.proofs.Targets.{none_some, some_same}
 use Rattle.model_steps.specs.{PacketFiles.PacketFile, declared.packet.Packet.Packet}
-use Rattle.cmd_store.specs.PacketLines.{file_sent}
+use Rattle.cmd_store.specs.{Lines.named_receiver, PacketLines.file_sent}
 use Rattle.station_scan.specs.{Left.{IsEnded, IsLeftOf, IsToFind}, Scanning.{CommitsScan, PreparesScan}}
 use Rattle.station_scan.specs.{Publishing.IsOnDisk, Sending.IsFreeAt, Sending.IsStagingOfPacket, Sending.IsWholeAlone, Sends.IsOfThese}
 use Rattle.law_stations.specs.{Disks.Disks, Disks.HasCursor, Disks.StagingFile, Disks.naming, Nets.Net, PacketNames.AreOfNet, PacketNames.ArePathsOnDisk, PacketNames.IsPacketName, PacketNames.IsToName, Stopping.EndsOne, Stopping.EndsSome, Stopping.HasNoneStaged}
@@ -424,13 +424,13 @@ module _ (Own : List ℕ → Type 0) (outbound own : List ℕ) (n i cursor : ℕ
           sent-path sent bytes (inr (none_there, waits)) there = absurd (none_some (sym none_there ∙ there))
 
           sent-staged : (sent : PacketFile) (bytes : List ℕ) → IsWholeAlone outbound own c sent → IsSentAs sent → c (staged sent.name) ≡ Some bytes → Among bytes after.net.packets ⊎ IsToName i now after bytes
-          sent-staged sent bytes whole as there =
+          sent-staged sent bytes whole how there =
               let same : sent.bytes ≡ bytes = elim whole [
                 | inl (path, inl staging) ↦ some_same (sym staging ∙ there)
                 | inl (path, inr gone) ↦ absurd (none_some (sym gone ∙ there))
                 | inr (staging, free) ↦ some_same (sym staging ∙ there)
               ] in
-              subst (λ (b : List ℕ). Among b after.net.packets ⊎ IsToName i now after b) same (elim as [ inl named ↦ inl named.1 | inr waits ↦ inr waits.1 ])
+              subst (λ (b : List ℕ). Among b after.net.packets ⊎ IsToName i now after b) same (elim how [ inl named ↦ inl named.1 | inr waits ↦ inr waits.1 ])
 
           pub after-commit : All (IsWholeAlone outbound own c) files → ((sent : PacketFile) → Among sent files → IsSentAs sent) → ((sent : PacketFile) → Among sent files → cursor < now) → AreOfNet Own outbound own i now c after
           after-commit wholes sent_as some = record {
