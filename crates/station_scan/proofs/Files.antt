@@ -3,15 +3,15 @@ use Rattle.std.proofs.Common.{◌≡◌, inl, inr, ⊎_elim, ◌∙◌, ℕ, Lis
 use Rattle.std.{proofs.lemmas.List.Elements.{All-contains, All-map}, specs.Prelude.{All, Contains, None}}
 use Rattle.base_file.specs.Base.{Base}
 use Rattle.disk_io.specs.Disk.{DiskState, Files}
-use Rattle.disk_atomic.specs.{ListStaged.IsNameByte, Naming.HasItsPath, Naming.IsWholeAtEither, Outgoing.IsAtStaging, Outgoing.IsFree, Outgoing.SendsBytes, declared.outgoing.Outgoing.Outgoing}
+use Rattle.disk_atomic.specs.{ListStaged.IsNameByte, Naming.HasItsPath, Naming.IsWholeAtEither, Outgoing.IsAtStaging, Outgoing.IsFilled, Outgoing.IsFree, Outgoing.SendsBytes, declared.outgoing.Outgoing.Outgoing}
 use Rattle.disk_atomic.proofs.Packets.{nobody}
 use Rattle.echo_addr.specs.declared.address.Address.{Address}
 use Rattle.model_steps.specs.{PacketFiles.PacketFile, Scanning.header_to}
 use Rattle.cmd_store.specs.PacketLines.{file_sent, packet_name}
 use Rattle.echo_toss.{specs.{Counts.{bytes_for, link_set}, Exports.{OutgoingMessage as Sent, nowhere, packet_out}}, proofs.Counts.scanned_to}
-use Rattle.station_scan.specs.Sending.{AreRoutes, HasBytes, IsAtItsPath, IsFreeAt, IsOfPacket, IsOffOwn, IsStagingGone, IsStagingOfPacket, IsWhole, file_paths, for_address}
+use Rattle.station_scan.specs.Sending.{AreRoutes, HasBytes, IsAtItsPath, IsFreeAt, IsOfPacket, IsOffOwn, IsStagingGone, IsStagingOfPacket, IsWhole, IsWholeAlone, file_paths, for_address}
 use Rattle.station_scan.specs.Passing.{AreFor, FitTo, IsFront, IsGrowingTo, IsRouted, IsStagingTo, IsTakenFor, all_sent, is_made, links_to}
-use Rattle.station_scan.specs.{Fitting.AreFit, Fitting.AreTaken, Publishing.IsFreeIn, Publishing.IsGoingAt, Publishing.ended_in, Scanning.packets_in, declared.sending.Sending.Sending}
+use Rattle.station_scan.specs.{Fitting.AreFit, Fitting.AreTaken, Publishing.IsFreeIn, Publishing.IsGoingAt, Publishing.ended_in, Publishing.no_files, Scanning.packets_in, declared.sending.Sending.Sending}
 use Rattle.station_scan.proofs.{Lists.all_of_map, Lists.contains_map, Lists.kept_passes, Lists.map_twice, Routes.address_for, Routes.all_for, Routes.made_wider, Routes.plain_name}
 
 -- the bytes of each packet
@@ -98,9 +98,14 @@ module _ (to : Sending) (planned : AreRoutes to) (base : Base) (packets : List O
   files_bytes all = all_files HasBytes all
 
   -- packets that a crash leaves
-  pub are_whole : (c : Files) → All (IsWholeAtEither (for_address (content_of to base)) c) packets → All (IsWhole to.outbound.now to.own.now c) (files_to to base)
-  are_whole c all = all_files (IsWhole to.outbound.now to.own.now c) (λ k z lt.
-      let is = for.routed k z lt in ⊎_elim (λ e. inl (ap c (sym is.path) ∙ e)) (λ e. inr (ap c (sym is.staging) ∙ e)) (all k z lt))
+  pub are_whole : (c : Files) → All (IsWholeAtEither (for_address (content_of to base)) no_files c) packets → All (IsWholeAlone to.outbound.now to.own.now c) (files_to to base)
+  are_whole c all = all_files (IsWholeAlone to.outbound.now to.own.now c) (λ k z lt.
+      let path = ap c (sym (for.routed k z lt).path) in
+      let staging = ap c (sym (for.routed k z lt).staging) in
+      ⊎_elim (λ at. inl (path ∙ at.0, ⊎_elim (λ e. inl (staging ∙ e)) (λ e. inr (staging ∙ e)) at.1)) (λ at. inr (staging ∙ at.0, path ∙ at.1)) (all k z lt))
+
+  pub are_filled : (disk : DiskState) → All (IsFilled (for_address (content_of to base)) disk) packets → All (IsWhole to.outbound.now to.own.now disk.seen) (files_to to base)
+  are_filled disk all = all_files (IsWhole to.outbound.now to.own.now disk.seen) (λ k z lt. inr (ap disk.seen (sym (for.routed k z lt).staging) ∙ (all k z lt).seen))
 
   pub have_none : (c : Files) → All (IsFreeIn c) packets → All (IsFreeAt to.outbound.now c) (files_to to base)
   have_none c all = all_files (IsFreeAt to.outbound.now c) (λ k z lt. ap c (sym (for.routed k z lt).path) ∙ all k z lt)

@@ -13,18 +13,19 @@ pub same_seen : (a b : DiskState) → ChangesNothing a b → b.seen ≡ a.seen
 same_seen a b quiet = grind arith
 
 module _ (Own : List ℕ → Type 0) (outbound own : List ℕ) (Stays Comes Stayed Came : Files → Type 0) (cursor : ℕ) (files : List PacketFile) (d0 d1 d2 : DiskState) (quiet : ChangesNothing d0 d1)
-    (stays : (c : Files) → Stayed c → Stays c) (comes : (c : Files) → Came c → Comes c) (stood : (c : Files) → d0.may_leave c → Stays c) (found : List Left) where
+    (stays : (c : Files) → Stayed c → Stays c) (comes : (c : Files) → Came c → Comes c) (stood : (c : Files) → d0.may_leave c → Stays c) (found : List Left) (is_true : Type 0) where
   abbrev Before : Files → Type 0
-  Before c = OneStepOn (PreparesScan outbound own Stays cursor found files) d0 c ⊎ CommitsScan Own outbound own (IsOnDisk d0) Stays Comes cursor found files d0.seen c
+  Before c = OneStepOn (PreparesScan outbound own Stays cursor found files) d0 c ⊎ CommitsScan is_true Own outbound own (IsOnDisk d0) Stays Comes cursor found files d0.seen c
 
   abbrev After : Files → Type 0
-  After c = OneStepOn (PreparesScan outbound own Stayed cursor found files) d1 c ⊎ CommitsScan Own outbound own (IsOnDisk d1) Stayed Came cursor found files d1.seen c
+  After c = OneStepOn (PreparesScan outbound own Stayed cursor found files) d1 c ⊎ CommitsScan is_true Own outbound own (IsOnDisk d1) Stayed Came cursor found files d1.seen c
 
-  commits_looked : (c : Files) → CommitsScan Own outbound own (IsOnDisk d1) Stayed Came cursor found files d1.seen c → CommitsScan Own outbound own (IsOnDisk d0) Stays Comes cursor found files d0.seen c
+  commits_looked : (c : Files) → CommitsScan is_true Own outbound own (IsOnDisk d1) Stayed Came cursor found files d1.seen c → CommitsScan is_true Own outbound own (IsOnDisk d0) Stays Comes cursor found files d0.seen c
   commits_looked c with =
-      let at : CommitsScan Own outbound own (IsOnDisk d1) Stayed Came cursor found files d0.seen c =
-      subst (λ (f : Files). CommitsScan Own outbound own (IsOnDisk d1) Stayed Came cursor found files f c) (same_seen d0 d1 quiet) with in
+      let at : CommitsScan is_true Own outbound own (IsOnDisk d1) Stayed Came cursor found files d0.seen c =
+      subst (λ (f : Files). CommitsScan is_true Own outbound own (IsOnDisk d1) Stayed Came cursor found files f c) (same_seen d0 d1 quiet) with in
       record {
+        all = at.all;
         between = at.between;
         ended = at.ended;
         staging_them = at.staging_them;
@@ -43,8 +44,8 @@ module _ (Own : List ℕ → Type 0) (outbound own : List ℕ) (Stays Comes Stay
       (weaker_run d0 d1 d0.may_leave Before quiet.run (λ c left. inl (c, left, record { between = c; ends = finishes_none cursor found c; writes = λ m other. refl; represented = stood c left })))
       run looked_step
 
-  looked_sent : (is_true : Type 0) (result : Result (Unit {0}) ScanError) → OnOk result (AreSentOut is_true Own outbound own Came cursor found files d1.seen d2) → OnOk result (AreSentOut is_true Own outbound own Comes cursor found files d0.seen d2)
-  looked_sent is_true (Ok done) sent =
+  looked_sent : (result : Result (Unit {0}) ScanError) → OnOk result (AreSentOut is_true Own outbound own Came cursor found files d1.seen d2) → OnOk result (AreSentOut is_true Own outbound own Comes cursor found files d0.seen d2)
+  looked_sent (Ok done) sent =
       let at : AreSentOut is_true Own outbound own Came cursor found files d0.seen d2 =
       subst (λ (f : Files). AreSentOut is_true Own outbound own Came cursor found files f d2) (same_seen d0 d1 quiet) sent in
       record {
@@ -60,7 +61,7 @@ module _ (Own : List ℕ → Type 0) (outbound own : List ℕ) (Stays Comes Stay
         others = at.others;
         bytes = at.bytes;
       }
-  looked_sent is_true (Err cause) sent = tt
+  looked_sent (Err cause) sent = tt
 
 -- then the packets were sent out
 pub looked_out : {D : Type 0} (state : D → DiskState) (Own : List ℕ → Type 0) (outbound own : List ℕ) (Stays Comes Stayed Came : Files → Type 0) (cursor : ℕ) (files : List PacketFile) (d0 d1 d2 : DiskState) → ChangesNothing d0 d1
@@ -74,7 +75,8 @@ looked_out state Own outbound own Stays Comes Stayed Came cursor files d0 d1 d2 
       each = subst (λ (f : Files). All (IsLeftOf (IsTrue f) Own outbound own) found) seen sends.each;
       sent = subst (λ (f : Files). OnOk result (AreSentOut (IsTrue f) Own outbound own Comes cursor found files d0.seen d2)) seen
           (looked_sent Own outbound own Stays Comes Stayed Came cursor files d0 d1 d2 quiet stays comes stood found (IsTrue d1.seen) result sends.sent);
-      crash = looked_moments Own outbound own Stays Comes Stayed Came cursor files d0 d1 d2 quiet stays comes stood found sends.crash;
+      crash = subst (λ (f : Files). LeavesOnly d0 d2 (λ c. OneStepOn (PreparesScan outbound own Stays cursor found files) d0 c ⊎ CommitsScan (IsTrue f) Own outbound own (IsOnDisk d0) Stays Comes cursor found files d0.seen c)) seen
+          (looked_moments Own outbound own Stays Comes Stayed Came cursor files d0 d1 d2 quiet stays comes stood found (IsTrue d1.seen) sends.crash);
       why = put_wider some failed _ _ _ result wider (λ taken. subst (IsTaken Own outbound own cursor found files) seen taken) sends.why;
       left =
           tells_as _ _ _ _ _ _ _ _ (stays d2.seen) (λ none m at other. ⊎_elim (λ gone. inl gone) (λ same. inr (same ∙ quiet.seen m)) (none m at other))

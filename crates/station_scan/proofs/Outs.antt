@@ -37,7 +37,7 @@ module _ (Own : List ℕ → Type 0) (outbound own : List ℕ) (is_true failed :
     found = ends.found
 
     abbrev May : Files → Type 0
-    May c = OneStepOn (PreparesScan outbound own Stays cursor found files) s0.disk c ⊎ CommitsScan Own outbound own (IsOnDisk s0.disk) Stays Comes cursor found files s0.disk.seen c
+    May c = OneStepOn (PreparesScan outbound own Stays cursor found files) s0.disk c ⊎ CommitsScan is_true Own outbound own (IsOnDisk s0.disk) Stays Comes cursor found files s0.disk.seen c
 
     represented_ended : (a c : Files) → s0.disk.may_leave a → FinishesEach cursor found a c → Stays c
     represented_ended a c left finishes =
@@ -80,7 +80,7 @@ module _ (Own : List ℕ → Type 0) (outbound own : List ℕ) (is_true failed :
     these = ends.found
 
     abbrev All_may : Files → Type 0
-    All_may c = OneStepOn (PreparesScan outbound own Stays cursor these files) s0.disk c ⊎ CommitsScan Own outbound own (IsOnDisk s0.disk) Stays Comes cursor these files s0.disk.seen c
+    All_may c = OneStepOn (PreparesScan outbound own Stays cursor these files) s0.disk c ⊎ CommitsScan is_true Own outbound own (IsOnDisk s0.disk) Stays Comes cursor these files s0.disk.seen c
 
     all_ended : All (IsEnded cursor s0.disk.seen s1.disk.seen) these
     all_ended k z lt = is_ended cursor s0.disk s1.disk (get_or these k z) (ends.over k z lt)
@@ -94,6 +94,7 @@ module _ (Own : List ℕ → Type 0) (outbound own : List ℕ) (is_true failed :
         let at = left_now s0.disk s1.disk (OneStepOn (FinishesEach cursor these) s0.disk) ends.any_moment b over.writes.1 in
         inl (at.0, at.1, record { between = b; ends = at.2; writes = over.writes.2; represented = (used.same.represented first c).0 over.represented })
     sent_moment c (inr with) = inr (record {
+      all = ends.all;
       between = s1.disk.seen;
       ended = all_ended;
       staging_them = ends.changes.seen;

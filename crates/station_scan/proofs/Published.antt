@@ -1,14 +1,14 @@
 -- Packets and the commit of a store.
-use Rattle.std.proofs.{Common.{◌≡◌, inl, inr, ⊎_elim, ◌∙◌, ◌<◌, ℕ, List, ap, get_or, length, subst, sym, arith}, lemmas.List.Elements.All-contains}
+use Rattle.std.proofs.{Common.{◌≡◌, inl, inr, ⊎_elim, ◌∙◌, ◌<◌, ℕ, List, None, ap, get_or, length, subst, sym, arith}, lemmas.List.Elements.All-contains}
 use Rattle.std.specs.Prelude.{All, Bool, IfErr, IfOk, OnOk, Result, true}
 use Rattle.base_file.specs.Base.{Base}
 use Rattle.disk_io.specs.{Disk.DiskState, Disk.Files, Disk.Honestly, Disk.bytes_in, Fixed.AreBytes, declared.disk_error.DiskError.DiskError, Runs.ChangesNothing, Runs.LeavesOnly, Runs.OneStepOn}
 use Rattle.disk_io.proofs.Moments.{then_run, weaker_run}
 use Rattle.disk_atomic.specs.{Outgoing.{IsAtStaging, IsFilled, IsOfOne, IsStaged, SendsBytes, staged_in}, declared.outgoing.Outgoing.Outgoing}
 use Rattle.disk_atomic.specs.{Changes.ChangesOnly, Changes.DifferAt, Changes.HasOnDisk, Naming.HasItsPath, Naming.NamesEach, Naming.IsWholeAtEither, Publishing.IsApartFrom}
-use Rattle.base_store.{specs.Store.{Commits, IsSameStore, MayCommit, StoreState}, proofs.Runs.same_twice}
+use Rattle.base_store.{specs.Store.{Commits, IsSameStore, LeavesEither, MayCommit, StoreState}, proofs.Runs.same_twice}
 use Rattle.station.specs.Beneath.{HoldsAsBefore, IsUsedAt}
-use Rattle.station_scan.specs.Publishing.{AreGoing, ArePublished, AreStaged, CommitsWith, IsGoingAt, IsNamedAs, IsPublishedAt, IsWritten, UnchangedExcept, KeepsStoreBut, NoneStays, PublishesOn, StopsCommitting, StopsPublishing, staged_before}
+use Rattle.station_scan.specs.Publishing.{AreGoing, ArePublished, AreStaged, CommitsWith, IsGoingAt, IsNamedAs, IsPublishedAt, IsWritten, UnchangedExcept, KeepsStoreBut, NoneStays, PublishesOn, no_files, StopsCommitting, StopsPublishing, staged_before}
 use Rattle.station_scan.specs.{declared.publish_error.PublishError.PublishError}
 
 -- no own path of the store belongs to a packet
@@ -55,8 +55,8 @@ holds_now s ready = record { ready = ready; keeps = λ base h. h; committed = λ
 -- ---- the content of packets by another function
 
 module _ (one other : Outgoing → List ℕ) (packets : List Outgoing) (same : All (λ p. one p ≡ other p) packets) where
-  pub whole_as : (c : Files) → All (IsWholeAtEither one c) packets → All (IsWholeAtEither other c) packets
-  whole_as c all k z lt = grind (arith, get_or)
+  pub whole_as : (b c : Files) → All (IsWholeAtEither one b c) packets → All (IsWholeAtEither other b c) packets
+  whole_as b c all k z lt = grind (arith, get_or)
 
   pub bytes_as : All (SendsBytes one) packets → All (SendsBytes other) packets
   bytes_as all k z lt = subst AreBytes (same k z lt) (all k z lt)
@@ -91,8 +91,28 @@ module _ (packets : List Outgoing) (s0 : StoreState) (apart : All (IsApartFrom s
   pub staged_still : All (IsStaged (staged_in s1.disk.seen) s1.disk) packets
   staged_still k z lt = record { file = filled_as has (staged_in s1.disk.seen) packets back_staged s1.disk all_filled k z lt; named = may.others.named _ (apart k z lt).path (staged.staged k z lt).named }
 
+  -- no file has their paths
+  still_clear : s1.disk.is_honest → (c : Files) → s1.disk.may_leave c → (k : ℕ) (z : Outgoing) → k < length packets → c (get_or packets k z).path.now ≡ None
+  still_clear honest c left k z lt =
+      let clear = staged.clear (may.others.honest honest) k z lt in
+      let off = (apart k z lt).path in
+      s1.disk.on_disk _ (may.others.named _ off clear.named) (may.others.flushed _ off clear.flushed) c left ∙ may.others.seen _ off ∙ clear.none
+
+  over_none : (b c : Files) → ((k : ℕ) (z : Outgoing) → k < length packets → b (get_or packets k z).path.now ≡ None) → All (IsWholeAtEither has b c) packets → All (IsWholeAtEither has no_files c) packets
+  over_none b c none all k z lt = ⊎_elim (λ at. inl at) (λ at. inr (at.0, at.1 ∙ none k z lt)) (all k z lt)
+
   committing : s1.disk.is_honest → (first next : Base) → s0.committed first → s0.keeps next → LeavesOnly s0.disk s1.disk (CommitsWith s0 (IsOfOne packets) has packets first next)
-  committing honest first next was is = grind (arith, weaker_run, ⊎_elim, get_or)
+  committing honest first next was is =
+      weaker_run s0.disk s1.disk (LeavesEither s0 first next) (CommitsWith s0 (IsOfOne packets) has packets first next) (may.any_moment honest first next was is)
+      (λ c left.
+      let free : (k : ℕ) (z : Outgoing) → k < length packets → c (get_or packets k z).path.now ≡ None = λ k z lt.
+      let clear = staged.clear (may.others.honest honest) k z lt in left.others _ (apart k z lt).path clear.named clear.flushed ∙ clear.none in
+      record {
+        others = λ m out other on. left.others m out on.0 on.1;
+        either = ⊎_elim (λ stays. inl (stays, free))
+            (λ comes. inr (comes, λ k z lt. let file = (staged.staged k z lt).file in inr (left.others _ (apart k z lt).staging file.named file.flushed ∙ file.seen, free k z lt), staged.bytes (may.others.honest honest)))
+            left.represented;
+      })
 
   -- and then they get their paths
   pub naming : (s2 : StoreState) → Commits s0 s1 → IsUsedAt (IsOfOne packets) s1 s2 → s1.disk.is_honest → LeavesOnly s1.disk s2.disk (OneStepOn (NamesEach (staged_in s1.disk.seen) packets) s1.disk) → (first next : Base) → s0.committed first
@@ -106,7 +126,7 @@ module _ (packets : List Outgoing) (s0 : StoreState) (apart : All (IsApartFrom s
             step.2.others m other ∙ s1.disk.on_disk m (may.others.named m out on.0) (may.others.flushed m out on.1) step.0 step.1 ∙ may.others.seen m out;
         either = inr (
           (may.same.represented next c).0 (used.settled next step.0 c (λ m own. step.2.others m (own_not m own)) (s1.stays honest commits.ready next next_committed step.0 step.1)),
-          whole_as (staged_in s1.disk.seen) has packets same_staged c step.2.whole,
+          over_none step.0 c (still_clear honest step.0 step.1) (whole_as (staged_in s1.disk.seen) has packets same_staged step.0 c step.2.whole),
           staged.bytes (may.others.honest honest),
         );
       })

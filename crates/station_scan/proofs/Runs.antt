@@ -128,13 +128,13 @@ module _ {D : Type 0} (state : D → DiskState) (place : Place) (d0 d2 : DiskSta
       found = sends.found
 
       abbrev May : Files → Type 0
-      May = MayLeave place outbound own d0 base found files s1.disk.seen
+      May = MayLeave is_true place outbound own d0 base found files s1.disk.seen
 
       abbrev On_way : Files → Type 0
-      On_way = IsOnItsWay place outbound own d0 base found files s1.disk.seen
+      On_way = IsOnItsWay is_true place outbound own d0 base found files s1.disk.seen
 
       abbrev Sends : Files → Type 0
-      Sends c = Prepares_on files found c ⊎ CommitsScan Own outbound own (IsOnDisk s1.disk) (s1.represented base) (s1.represented (all_scanned base)) base.cursor found files s1.disk.seen c
+      Sends c = Prepares_on files found c ⊎ CommitsScan is_true Own outbound own (IsOnDisk s1.disk) (s1.represented base) (s1.represented (all_scanned base)) base.cursor found files s1.disk.seen c
 
       opened_may : (c : Files) → RepresentsOrWasLeft place d0 base c → May c
       opened_may c left = ⊎_elim (λ was. inl was) (λ prepares. inr (inl prepares)) (opened_prepares files found c left)
@@ -145,6 +145,7 @@ module _ {D : Type 0} (state : D → DiskState) (place : Place) (d0 d2 : DiskSta
       sent_on : (c : Files) → Sends c → On_way c
       sent_on c (inl step) = inl (prepared_on files found c step)
       sent_on c (inr with) = inr (record {
+        all = all_left_as Own place.is_own in_own outbound own is_true s1.disk.seen found own_in with.all;
         between = with.between;
         ended = with.ended;
         staging_them = with.staging_them;

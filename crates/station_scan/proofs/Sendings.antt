@@ -13,14 +13,14 @@ use Rattle.base_store.{specs.Store.{Commits, IsSameStore, LeavesEither, MayCommi
 use Rattle.echo_toss.specs.{Counts.link_set, Exports.OutgoingMessage as Sent}
 use Rattle.station.specs.Beneath.{HoldsAsBefore, IsUsedAt}
 use Rattle.station_scan.specs.Passing.{AreFor, AreGrowing, CanSend, HasPassed, IsGrowingTo, IsStagingTo, all_sent, is_made, links_to}
-use Rattle.station_scan.specs.Publishing.{AreGone, ArePublished, HasPublishCause, IsFreeIn, IsGoingAt, IsPublishedAt, IsTriedWith, KeepsStoreBut, MayPublish, PublishesOn, StopsPublishing, ended_before}
-use Rattle.station_scan.specs.Sending.{HasBytes, IsAtItsPath, IsFreeAt, IsOfPacket, IsStagingGone, IsStagingOfPacket, IsWhole, for_address}
+use Rattle.station_scan.specs.Publishing.{AreGone, ArePublished, HasPublishCause, IsFreeIn, IsGoingAt, IsPublishedAt, IsTriedWith, KeepsStoreBut, MayPublish, PublishesOn, StopsPublishing, ended_before, no_files}
+use Rattle.station_scan.specs.Sending.{HasBytes, IsAtItsPath, IsFreeAt, IsOfPacket, IsStagingGone, IsStagingOfPacket, IsWhole, IsWholeAlone, for_address}
 use Rattle.station_scan.specs.Sends.{AreSentOn, IsLeftAs, IsOfThese, SendsThese, WasTriedFor, WritesStaging}
 use Rattle.station_scan.specs.{Moved.IsMoved, Moved.SendsFrom, Fitting.AreTaken, Left.IsOfNameOff, Scanning.packets_in}
 use Rattle.station_scan.specs.{Stops.IsOfBase, Stops.IsOfPlacing, Stops.most, Stops.scan_done, declared.publish_error.PublishError.PublishError}
 use Rattle.station_scan.specs.declared.{publish_error.PublishError.TheVariants.Packets, counting.LinkPacket.LinkPacket, scan_error.ScanError.TheVariants.Staying, sending.Sending.Sending}
-use Rattle.station_scan.proofs.Files.{are_whole, at_its_path, content_of, ended_has, file_to, files_are, files_bytes, files_to, growing_free, have_none, none_left, none_staging, of_packet, same_files, staging_files, staging_packet}
-use Rattle.station_scan.proofs.Published.{bytes_as, commits_used, holds_still, keeps_only, keeps_then, keeps_wider, path_as, store_wider, whole_as}
+use Rattle.station_scan.proofs.Files.{are_filled, are_whole, at_its_path, content_of, ended_has, file_to, files_are, files_bytes, files_to, growing_free, have_none, none_left, none_staging, of_packet, same_files, staging_files, staging_packet}
+use Rattle.station_scan.proofs.Published.{bytes_as, commits_used, filled_as, holds_still, keeps_only, keeps_then, keeps_wider, path_as, store_wider, whole_as}
 use Rattle.station_scan.proofs.{Lists.kept_passes, Routes.address_for, Routes.path_off, Routes.staging_at, Routes.staging_named, Staged.tried_after, Stops.sent_why, Stops.tells_alone, Stops.tells_published}
 
 -- ---- staging files are written, and then the packets are sent
@@ -161,7 +161,7 @@ module _ {D : Type 0} (state : D → DiskState) (Own : List ℕ → Type 0) (to 
           crash = crash_then s2 (weaker_run s1.disk s2.disk (LeavesEither s1 base next) (SendsThese s1 out own files base next) (may.any_moment honest2 base next committed kept)
               (λ c either. inr (record {
                 others = λ m other on. either.others m (λ o. other (inl o)) on.0 on.1;
-                either = ⊎_elim (λ represented. inl (represented, nothing (IsFreeAt out c))) (λ represented. inr (represented, nothing (IsWhole out own c), nothing HasBytes)) either.represented;
+                either = ⊎_elim (λ represented. inl (represented, nothing (IsFreeAt out c))) (λ represented. inr (represented, nothing (IsWholeAlone out own c), nothing HasBytes)) either.represented;
               })));
           keeps = keeps_after s2 (record {
             same = may.same;
@@ -219,7 +219,7 @@ module _ {D : Type 0} (state : D → DiskState) (Own : List ℕ → Type 0) (to 
           ⊎_elim (λ none. inl (none.0, as_files (λ l. All (IsFreeAt out c) l) (have_none to can.routes base packets for c none.1)))
           (λ all. inr (
             all.0,
-            as_files (λ l. All (IsWhole out own c) l) (are_whole to can.routes base packets for c (whole_as (ended_before s1 next) content packets has c all.1)),
+            as_files (λ l. All (IsWholeAlone out own c) l) (are_whole to can.routes base packets for c (whole_as (ended_before s1 next) content packets has no_files c all.1)),
             as_files (λ l. All HasBytes l) (files_bytes to can.routes base packets for (bytes_as (ended_before s1 next) content packets has all.2)),
           )) with.either;
     })
@@ -234,7 +234,7 @@ module _ {D : Type 0} (state : D → DiskState) (Own : List ℕ → Type 0) (to 
     left_none gone m (inr at) other = inl (ap s2.disk.seen (at ∙ sym can.routes.tried) ∙ gone.1)
 
     left_whole : All (IsFilled (ended_before s1 next) s2.disk) packets → All (IsWhole out own s2.disk.seen) files
-    left_whole all = as_files (λ l. All (IsWhole out own s2.disk.seen) l) (are_whole to can.routes base packets for s2.disk.seen (whole_as (ended_before s1 next) content packets has s2.disk.seen (λ k z lt. inr (all k z lt).seen)))
+    left_whole all = as_files (λ l. All (IsWhole out own s2.disk.seen) l) (are_filled to can.routes base packets for s2.disk (filled_as (ended_before s1 next) content packets has s2.disk all))
 
     left_sent : IsSameStore s1 s2 → IfErr done (StopsPublishing (ended_before s1) packets to.trial.now s1 s2)
         → IfErr (scan_done done) (IsLeftAs out own (s0.represented base) (s0.represented next) (λ m. ⊥) files s0.disk.seen s2.disk.seen)

@@ -54,12 +54,16 @@ pub record StagesOver (old : StoreState) (packets : List Outgoing) (trial : List
 abbrev pub IsFreeIn : Files → Outgoing → Type 0
 IsFreeIn c p = c p.path.now ≡ None
 
+-- no file at all
+abbrev pub no_files : Files
+no_files m = None
+
 -- From the commit on. Either the files hold the base that was committed before, and no file has the path of a packet of these. Or they hold
--- the store's new base, and each packet, which is bytes, is whole at its path or its staging path. All else on the disk, except at these
--- paths, is as it was seen.
+-- the store's new base, and each packet, which is bytes, is whole at its path or its staging path, and no other file is at these. All else
+-- on the disk, except at these paths, is as it was seen.
 pub record CommitsWith (old : StoreState) (paths : List ℕ → Type 0) (content : Outgoing → List ℕ) (packets : List Outgoing) (first next : Base) (c : Files) : Type 0 where
   pub others : (m : List ℕ) → (old.is_own m → ⊥) → (paths m → ⊥) → IsOnDisk old.disk m → c m ≡ old.disk.seen m
-  pub either : (old.represented first c × All (IsFreeIn c) packets) ⊎ (old.represented next c × All (IsWholeAtEither content c) packets × All (SendsBytes content) packets)
+  pub either : (old.represented first c × All (IsFreeIn c) packets) ⊎ (old.represented next c × All (IsWholeAtEither content no_files c) packets × All (SendsBytes content) packets)
 
 -- What a crash at any time during the steps may leave.
 abbrev pub PublishesOn : StoreState → (Outgoing → List ℕ) → List Outgoing → List ℕ → Base → Base → Files → Type 0

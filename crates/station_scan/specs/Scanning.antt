@@ -11,7 +11,7 @@ use Rattle.cmd_store.specs.{PacketLines.file_sent, Scanned.ScansOn, declared.com
 use Rattle.echo_toss.specs.PacketsIn.{state_in}
 use Rattle.station.specs.{Place.Place, Place.RepresentsOrWasLeft, Running.IsNotRun, Running.IsStopped}
 use Rattle.station_scan.specs.Left.{AreAllLeft, AreFreeLeft, IsEnded, IsEndedAt, IsLeftOf, IsOfName}
-use Rattle.station_scan.specs.Sending.{HasBytes, IsAtItsPath, IsStagingOfPacket, IsFreeAt, IsStagingGone, IsWhole}
+use Rattle.station_scan.specs.Sending.{HasBytes, IsAtItsPath, IsStagingOfPacket, IsFreeAt, IsStagingGone, IsWholeAlone}
 use Rattle.station_scan.specs.{Fitting.AreTaken, Publishing.IsOnDisk, Sends.IsLeftAs, Sends.IsOfThese, Sends.WasTriedFor, Stops.IsOfPlacing, Stops.as_scan, Stops.most, declared.scan_error.ScanError.ScanError}
 use Rattle.station_scan.specs.declared.scan_error.ScanError.TheVariants.{Command, Staying}
 
@@ -29,14 +29,16 @@ pub record PreparesScan (outbound own : List ℕ) (Stays : Files → Type 0) (cu
 
 -- From the commit on, where these files were seen before the scan: the leftover packets are finished. Either the files hold the base that
 -- was committed before, and no file has the path of a packet of this scan. Or they hold the new base, and each packet, which is bytes, is
--- whole at one of its two paths. All else on the disk is as it was seen.
-pub record CommitsScan (Own : List ℕ → Type 0) (outbound own : List ℕ) (OnDisk : List ℕ → Type 0) (Stays Comes : Files → Type 0) (cursor : ℕ) (found : List Left) (files : List PacketFile) (seen after : Files) : Type 0 where
+-- whole at one of its two paths, with no other file there. All else on the disk is as it was seen.
+pub record CommitsScan (is_true : Type 0) (Own : List ℕ → Type 0) (outbound own : List ℕ) (OnDisk : List ℕ → Type 0) (Stays Comes : Files → Type 0) (cursor : ℕ) (found : List Left) (files : List PacketFile) (seen after : Files) : Type 0 where
+  -- If the list was true, all leftover packets are among them.
+  pub all : AreAllLeft is_true Own outbound own seen found
   -- the files once the leftover packets were finished
   pub between : Files
   pub ended : All (IsEnded cursor seen between) found
   pub staging_them : DifferAt (IsOfLeft found) seen between
   pub others : (m : List ℕ) → (IsOfThese Own outbound own files m → ⊥) → (OnDisk m × (IsOfLeft found m → ⊥)) ⊎ IsEndedAt cursor found between m → after m ≡ between m
-  pub either : (Stays after × All (IsFreeAt outbound after) files) ⊎ (Comes after × All (IsWhole outbound own after) files × All HasBytes files)
+  pub either : (Stays after × All (IsFreeAt outbound after) files) ⊎ (Comes after × All (IsWholeAlone outbound own after) files × All HasBytes files)
 
 -- The leftover packets were finished. Then the packets of this scan and the new base were put on the disk.
 pub record AreSentOut (is_true : Type 0) (Own : List ℕ → Type 0) (outbound own : List ℕ) (Comes : Files → Type 0) (cursor : ℕ) (found : List Left) (files : List PacketFile) (seen : Files) (new : DiskState) : Type 0 where
@@ -68,7 +70,7 @@ pub record SendsOut {D : Type 0} (state : D → DiskState) (is_true failed : Typ
   pub found : List Left
   pub each : All (IsLeftOf is_true Own outbound own) found
   pub sent : OnOk result (AreSentOut is_true Own outbound own Comes cursor found files old.seen new)
-  pub crash : LeavesOnly old new (λ c. OneStepOn (PreparesScan outbound own Stays cursor found files) old c ⊎ CommitsScan Own outbound own (IsOnDisk old) Stays Comes cursor found files old.seen c)
+  pub crash : LeavesOnly old new (λ c. OneStepOn (PreparesScan outbound own Stays cursor found files) old c ⊎ CommitsScan is_true Own outbound own (IsOnDisk old) Stays Comes cursor found files old.seen c)
   pub why : IfErr result (IsOfPlacing failed (IsTaken Own outbound own cursor found files old.seen) (most < cursor))
   pub left : IfErr result (IsLeftAs outbound own Stays Comes (IsOfLeft found) files old.seen new.seen)
   pub tried : ((c : Files) → new.may_leave c → Stays c) ⊎ WasTriedFor state Own outbound own files old
@@ -121,14 +123,14 @@ IsPreparing place outbound own old base found files c =
     (before : Files) × RepresentsOrWasLeft place old base before × PreparesScan outbound own (place.represents base) base.cursor found files before c
 
 -- These steps, or those from the commit on. These files were seen once the station was open.
-abbrev pub IsOnItsWay : Place → List ℕ → List ℕ → DiskState → Base → List Left → List PacketFile → Files → Files → Type 0
-IsOnItsWay place outbound own old base found files opened c =
+abbrev pub IsOnItsWay : Type 0 → Place → List ℕ → List ℕ → DiskState → Base → List Left → List PacketFile → Files → Files → Type 0
+IsOnItsWay is_true place outbound own old base found files opened c =
     IsPreparing place outbound own old base found files c
-    ⊎ CommitsScan place.is_own outbound own (IsOnDisk old) (place.represents base) (place.represents (all_scanned base)) base.cursor found files opened c
+    ⊎ CommitsScan is_true place.is_own outbound own (IsOnDisk old) (place.represents base) (place.represents (all_scanned base)) base.cursor found files opened c
 
 -- What a crash during the scan may leave: a state of these steps, or one that a crash before could have left.
-abbrev pub MayLeave : Place → List ℕ → List ℕ → DiskState → Base → List Left → List PacketFile → Files → Files → Type 0
-MayLeave place outbound own old base found files opened c = old.may_leave c ⊎ IsOnItsWay place outbound own old base found files opened c
+abbrev pub MayLeave : Type 0 → Place → List ℕ → List ℕ → DiskState → Base → List Left → List PacketFile → Files → Files → Type 0
+MayLeave is_true place outbound own old base found files opened c = old.may_leave c ⊎ IsOnItsWay is_true place outbound own old base found files opened c
 
 -- If there are packets, it was tried before whether a file of the folder gets a second path. Until then nothing else was done outside the
 -- station's own files, which held the base from before.
@@ -144,9 +146,9 @@ pub record IsPutIn {D : Type 0} (state : D → DiskState) (place : Place) (outbo
   pub found : List Left
   pub each : All (IsLeftOf (IsTrue opened) place.is_own outbound own) found
   pub sent : OnOk result (AreSentOut (IsTrue opened) place.is_own outbound own (place.represents (all_scanned base)) base.cursor found files opened new)
-  pub crash : LeavesOnly old new (MayLeave place outbound own old base found files opened)
+  pub crash : LeavesOnly old new (MayLeave (IsTrue opened) place outbound own old base found files opened)
   -- However it ended, the base that was read is on the disk, or the new one.
-  pub lasts : (c : Files) → new.may_leave c → IsOnItsWay place outbound own old base found files opened c
+  pub lasts : (c : Files) → new.may_leave c → IsOnItsWay (IsTrue opened) place outbound own old base found files opened c
   pub why : IfErr result (IsOfPlacing failed (IsTaken place.is_own outbound own base.cursor found files opened) (most < base.cursor))
   pub left : IfErr result (IsLeftAs outbound own (place.represents base) (place.represents (all_scanned base)) (IsOfLeft found) files opened new.seen)
   -- Each crash leaves the base from before, or it was tried whether the packets can get their paths.

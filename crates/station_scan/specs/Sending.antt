@@ -70,6 +70,12 @@ HasBytes sent = AreBytes sent.bytes
 abbrev pub IsWhole : List ℕ → List ℕ → Files → PacketFile → Type 0
 IsWhole folder own c sent = (c (folder ++ sent.name) ≡ Some sent.bytes) ⊎ (c (staging_path (folder ++ sent.name) own) ≡ Some sent.bytes)
 
+-- It is so, and no other file is at these.
+abbrev pub IsWholeAlone : List ℕ → List ℕ → Files → PacketFile → Type 0
+IsWholeAlone folder own c sent =
+    ((c (folder ++ sent.name) ≡ Some sent.bytes) × ((c (staging_path (folder ++ sent.name) own) ≡ Some sent.bytes) ⊎ (c (staging_path (folder ++ sent.name) own) ≡ None)))
+    ⊎ ((c (staging_path (folder ++ sent.name) own) ≡ Some sent.bytes) × (c (folder ++ sent.name) ≡ None))
+
 -- Nothing has its path.
 abbrev pub IsFreeAt : List ℕ → Files → PacketFile → Type 0
 IsFreeAt folder c sent = c (folder ++ sent.name) ≡ None

@@ -5,7 +5,7 @@ use Rattle.disk_io.specs.{Disk.DiskState, Disk.Files, Disk.Honestly, Runs.OneSte
 use Rattle.disk_atomic.specs.{Changes.DifferAt, Trying.WasTried, StagingPaths.staging_path}
 use Rattle.model_steps.specs.PacketFiles.{PacketFile}
 use Rattle.base_store.specs.Store.{Commits, StoreState}
-use Rattle.station_scan.specs.Sending.{HasBytes, IsAtItsPath, IsStagingOfPacket, IsFreeAt, IsStagingGone, IsOfPacket, IsWhole}
+use Rattle.station_scan.specs.Sending.{HasBytes, IsAtItsPath, IsStagingOfPacket, IsFreeAt, IsStagingGone, IsOfPacket, IsWhole, IsWholeAlone}
 use Rattle.station_scan.specs.{Left.IsOfNameOff, Publishing.IsOnDisk, Stops.TellsLeft, declared.scan_error.ScanError.ScanError}
 
 -- one of these paths, or one of the two paths of a packet
@@ -18,10 +18,11 @@ pub record WritesStaging (old : StoreState) (outbound own : List ℕ) (files : L
   pub represented : old.represented first c
 
 -- From the commit on. Either the files hold the base that was committed before, and no file has the path of a packet. Or they hold the
--- store's new base, and each packet, which is bytes, is whole at one of its two paths. All else on the disk is as it was seen.
+-- store's new base, and each packet, which is bytes, is whole at one of its two paths, with no other file there. All else on the disk is as
+-- it was seen.
 pub record CommitsThese (old : StoreState) (outbound own : List ℕ) (files : List PacketFile) (first next : Base) (c : Files) : Type 0 where
   pub others : (m : List ℕ) → (IsOfThese old.is_own outbound own files m → ⊥) → IsOnDisk old.disk m → c m ≡ old.disk.seen m
-  pub either : (old.represented first c × All (IsFreeAt outbound c) files) ⊎ (old.represented next c × All (IsWhole outbound own c) files × All HasBytes files)
+  pub either : (old.represented first c × All (IsFreeAt outbound c) files) ⊎ (old.represented next c × All (IsWholeAlone outbound own c) files × All HasBytes files)
 
 -- What a crash at any time during the steps may leave.
 abbrev pub SendsThese : StoreState → List ℕ → List ℕ → List PacketFile → Base → Base → Files → Type 0
