@@ -94,7 +94,7 @@ partly-cursor packets indexes (Fails path ∷ files) old new are same = ap (λ (
 partly-cursor packets [] (Unknown ∷ files) old new are partly = absurd are
 partly-cursor packets (k ∷ indexes) (Unknown ∷ files) old new are partly = absurd are.0
 
-tossed-cursor : (n : ℕ) (packets : List (List ℕ)) (indexes : List ℕ) (files : List Coming) (old new : SystemState) → Paired (IsPacketAt packets) indexes files → TossedFiles n files old new
+pub tossed-cursor : (n : ℕ) (packets : List (List ℕ)) (indexes : List ℕ) (files : List Coming) (old new : SystemState) → Paired (IsPacketAt packets) indexes files → TossedFiles n files old new
     → new.cursor ≡ old.cursor
 tossed-cursor zero packets indexes files old new are tossed = partly-cursor packets indexes files old new are tossed
 tossed-cursor (suc n) packets indexes [] old new are tossed = absurd tossed

@@ -1,5 +1,5 @@
 -- Some of the waiting packets are at their paths: these get their names.
-use Rattle.std.{proofs.Common.{◌≡◌, ◌⊎◌, inl, inr, refl, subst, ℕ, suc, ◌<◌, append-nil, append_assoc, List, [], ◌∷◌, ◌++◌, map}, specs.List.AllByRecursion}
+use Rattle.std.{proofs.Common.{◌≡◌, ◌⊎◌, inl, inr, refl, subst, sym, ℕ, suc, ◌<◌, append-nil, append_assoc, List, [], ◌∷◌, ◌++◌, map}, specs.List.AllByRecursion}
 use Rattle.model_graph.specs.Walk.{Among}
 use Rattle.model_steps.specs.PacketFiles.{PacketFile}
 use Rattle.law_stations.specs.{Nets.Net, Nets.bytes_of, Disks.StagingFile, Disks.HasCursor, Disks.with_packet, Stopping.EndsSome, Stopping.staging_of}
@@ -13,6 +13,7 @@ pub record Parted (IsAt IsStaged : PacketFile → Type 0) (i cursor : ℕ) (befo
   pub ends : EndsSome steps i (disks_with net (before ++ map (staging_of i cursor) ps)) (disks_with (with_packets net (map bytes_of named)) (before ++ map (staging_of i cursor) waiting))
   pub at_paths : AllByRecursion IsAt named
   pub staging_paths : AllByRecursion IsStaged waiting
+  pub each : (p : PacketFile) → Among p ps → (IsAt p × Among p named) ⊎ (IsStaged p × Among p waiting)
 
 module _ (IsAt IsStaged : PacketFile → Type 0) (i cursor most : ℕ) where
   -- there are none
@@ -27,6 +28,7 @@ module _ (IsAt IsStaged : PacketFile → Type 0) (i cursor most : ℕ) where
     };
     at_paths = tt;
     staging_paths = tt;
+    each = λ p among. absurd among;
   }
 
   -- one packet gets its name
@@ -47,6 +49,10 @@ module _ (IsAt IsStaged : PacketFile → Type 0) (i cursor most : ℕ) where
         );
         at_paths = (at, rest.at_paths);
         staging_paths = rest.staging_paths;
+        each = λ q among. elim among [
+          | inl is ↦ inl (subst IsAt (sym is) at, inl is)
+          | inr later ↦ elim (rest.each q later) [ inl named ↦ inl (named.0, inr named.1) | inr waits ↦ inr waits ]
+        ];
       }
 
   one-waits : (p : PacketFile) (ps : List PacketFile) (before : List StagingFile) (net : Net) → IsStaged p
@@ -63,6 +69,10 @@ module _ (IsAt IsStaged : PacketFile → Type 0) (i cursor most : ℕ) where
         ends = subst Q (append_assoc before (b ∷ []) (map (staging_of i cursor) rest.waiting)) (subst P (append_assoc before (b ∷ []) (map (staging_of i cursor) ps)) rest.ends);
         at_paths = rest.at_paths;
         staging_paths = (staging, rest.staging_paths);
+        each = λ q among. elim among [
+          | inl is ↦ inr (subst IsStaged (sym is) staging, inl is)
+          | inr later ↦ elim (rest.each q later) [ inl named ↦ inl named | inr waits ↦ inr (waits.0, inr waits.1) ]
+        ];
       }
 
   pub parted : (ps : List PacketFile) (before : List StagingFile) (net : Net) → HasCursor net i most → ((q : PacketFile) → Among q ps → cursor < most)

@@ -1,41 +1,55 @@
 -- A net goes on by a scan, and by a toss that ended well.
-use Rattle.std.proofs.Common.{◌⊎◌, ◌∙◌, ◌++◌, inl, inr, ⊎_elim, refl, sym, ap, append_assoc, ℕ, List, Some, None, Result, arith}
-use Rattle.base_file.specs.Base.{Base}
+use Rattle.std.proofs.Common.{◌⊎◌, ◌∙◌, ◌++◌, inl, inr, ⊎_elim, refl, sym, subst, ap, append_assoc, ℕ, List, Some, None, Result, arith}
 use Rattle.disk_io.specs.Disk.{DiskState, Files}
 use Rattle.model_steps.specs.declared.stamp.Stamp.{Stamp}
 use Rattle.station.specs.Place.{Place}
 use Rattle.station_scan.specs.{Scanning.IsTouched, declared.scan_error.ScanError.ScanError}
-use Rattle.law_stations.specs.{Commands.Scan, Disks.Disks, OnDisks.LeavesElsewhere, OnDisks.ShowsStation, Scans.AreAfterScan, Scans.IsBeforeCommit, Scans.ScansAsEvent, Scans.with_packets_in, Asked.GoesOnCut, Scanned.GoesOnBefore, Scanned.HavePackets, Scanned.IsScan, Scanned.ScanGoesOn, Scanned.ScansGoOn, Scanned.TossesGoOn, Seats.Seat, Seats.reach, Steps.IsAllOnDisk}
-use Rattle.law_stations.proofs.{Elsewhere.some-stations, GoingOn.reaches-by}
-use Rattle.model_run.specs.Run.{nth}
+use Rattle.law_stations.specs.{Commands.Scan, Disks.Disks, Nets.Station, OnDisks.LeavesElsewhere, PacketNames.IsFolderIn, PacketNames.IsListed, Scans.IsAfterCommit, Scans.IsBeforeCommit, Scans.IsCounted, Scans.ScansAsEvent, Scans.with_packets_in, Asked.GoesOnCut, Scanned.HavePackets, Scanned.IsScan, Scanned.ScanGoesOn, Scanned.ScansGoOn, Scanned.TossesGoOn, Seats.RepresentsSeat, Seats.Seat, Seats.reach, Steps.IsAllOnDisk}
+use Rattle.law_stations.proofs.{Elsewhere.some-stations, Folders.IsNoScan, Folders.folder-crash, Folders.folder-kept, Folders.folder-led, Folders.folder-then, Folders.grows-same, GoingOn.reaches-by}
+use Rattle.model_run.{specs.Run.nth, proofs.Targets.some_same}
 
 touched : {Kept : Type 0} (place : Kept → Place) (seat : Seat Kept) (m : List ℕ) → IsTouched (place seat.kept).is_own seat.outbound m → (reach place seat).is_own m
 touched place seat m h1 = grind (arith, append_assoc)
 
-module _ {D Kept : Type 0} (state : D → DiskState) (place : Kept → Place) (IsTrue : Files → Type 0) (seats : List (Seat Kept)) (seat : Seat Kept) (i : ℕ) (stamp : Stamp) (d ended : Disks) (base : Base) (old whole : D)
-    (result : Result (Unit {0}) ScanError) (does : ScansAsEvent stamp (place seat.kept) seat.links seat.outbound IsTrue i d ended base (state old) (state whole) result)
-    (on_disk : (c : Files) → (state old).may_leave c → ShowsStation (place seat.kept) seat.links i c d) where
+module _ {D Kept : Type 0} (state : D → DiskState) (place : Kept → Place) (IsTrue : Files → Type 0) (seats : List (Seat Kept)) (seat : Seat Kept) (i : ℕ) (stamp : Stamp) (d ended : Disks) (old whole : D)
+    (result : Result (Unit {0}) ScanError) (represented : RepresentsSeat place seats i seat (state old) d) (listed : IsListed IsTrue (place seat.kept).is_own (state old)) (counted : IsCounted represented.at.shows.station.base)
+    (does : ScansAsEvent stamp (place seat.kept) seat.links seat.outbound IsTrue i d ended represented.at.shows.station (state old) (state whole) result) where
+  abbrev was : Station
+  was = represented.at.shows.station
+
   elsewhere : LeavesElsewhere (reach place seat) (state old) (state whole)
   elsewhere = reaches-by (with_packets_in seat.outbound (place seat.kept)) (reach place seat) (state old) (state whole) (touched place seat) does.elsewhere
+
+  -- the folder in which the disk shows a station of the same net
+  shown-as : (one other : Station) (c : Files) (next : Disks) → nth i next.net.stations ≡ Some one → nth i next.net.stations ≡ Some other → IsFolderIn (place seat.kept) seat.outbound i one c next → IsFolderIn (place seat.kept) seat.outbound i other c next
+  shown-as one other c next there too folder = folder-then (place seat.kept) seat.outbound i one other c next next (some_same (sym there ∙ too)) (grows-same i next next refl) folder
 
   module _ (begun : D) (left : (state whole).left_since (state old).moment (state begun).seen) (all : IsAllOnDisk (state begun)) where
     abbrev Goes : Type 0
     Goes = (goes : GoesOnCut (IsScan stamp) place seat i d (state old) (state whole) (state begun))
-        × (GoesOnBefore IsTrue (place seat.kept) seat.links seat.outbound i d ended base (state old) (state begun).seen goes.next ⊎ HavePackets stamp (place seat.kept) seat.links seat.outbound i d ended base (state begun).seen goes.next)
+        × (((goes.next ≡ d) ⊎ (goes.next ≡ ended)) ⊎ HavePackets stamp (place seat.kept) seat.links seat.outbound i d ended was.base (state begun).seen goes.next)
 
     still : (state old).may_leave (state begun).seen → Goes
-    still was = (
-      record { command = None; is = tt; next = d; cut = record { left = left; begins = all; may = refl; shows = on_disk (state begun).seen was; elsewhere = elsewhere } },
-      inl (record {
-        either = inl refl;
-        packets = λ file read listed shown name bytes is at.
-            let on = shown.path name is in
-            shown.packets name bytes is (sym ((state old).on_disk (seat.outbound ++ name) on.0 on.1 (state begun).seen was) ∙ at);
-      }),
-    )
+    still may =
+        let shows = represented.on_disk (state begun).seen may in (
+          record {
+            command = None;
+            is = tt;
+            next = d;
+            cut = record {
+              left = left;
+              begins = all;
+              may = refl;
+              shows = shows;
+              folder = shown-as was shows.station (state begun).seen d represented.at.shows.there shows.there (folder-crash (place seat.kept) seat.outbound i was (state old) d represented.folder (state begun).seen may);
+              elsewhere = elsewhere;
+            };
+          },
+          inl (inl refl),
+        )
 
     -- the packets of earlier scans have their names
-    finished : IsBeforeCommit IsTrue (place seat.kept) seat.links seat.outbound i d ended base (state old) (state begun).seen → Goes
+    finished : IsBeforeCommit IsTrue (place seat.kept) seat.links seat.outbound i d ended was (state old) (state begun).seen → Goes
     finished before = (
       record {
         command = Some (Scan stamp);
@@ -51,32 +65,34 @@ module _ {D Kept : Type 0} (state : D → DiskState) (place : Kept → Place) (I
             of_links = before.shows.of_links;
             represented = before.shows.represented;
           };
+          folder = before.folder listed counted represented.folder;
           elsewhere = elsewhere;
         };
       },
-      inl (record { either = inr refl; packets = before.packets }),
+      inl (inr refl),
+    )
+
+    committed : IsAfterCommit stamp IsTrue (place seat.kept) seat.links seat.outbound i d ended was (state old) (state begun).seen → Goes
+    committed after = (
+      record {
+        command = Some (Scan stamp);
+        is = refl;
+        next = after.scan.after;
+        cut = record { left = left; begins = all; may = after.scan.leads; shows = after.scan.shows; folder = after.folder listed counted represented.folder; elsewhere = elsewhere };
+      },
+      inr (after.scan, refl),
     )
 
     cut : Goes
     cut = elim (does.crash (state begun).seen left) [
-      | inl was ↦ still was
-      | inr since ↦ ⊎_elim finished
-          (λ (may : AreAfterScan stamp (place seat.kept) seat.links seat.outbound i d ended base (state begun).seen). (
-            record {
-              command = Some (Scan stamp);
-              is = refl;
-              next = may.after;
-              cut = record { left = left; begins = all; may = may.leads; shows = may.shows; elsewhere = elsewhere };
-            },
-            inr (may, refl),
-          ))
-          since
+      | inl may ↦ still may
+      | inr since ↦ ⊎_elim finished committed since
     ]
 
-  goes-on : ScanGoesOn state place IsTrue seats seat i stamp d ended base old whole result
+  goes-on : ScanGoesOn state place seats seat i stamp d ended was old whole result
   goes-on = record {
     cut = cut;
-    ended = λ ok kept.
+    ended = λ ok kept on.
         let after = does.done ok in (
           record {
             command = Scan stamp;
@@ -84,26 +100,40 @@ module _ {D Kept : Type 0} (state : D → DiskState) (place : Kept → Place) (I
             next = after.scan.after;
             ended = record {
               may = after.scan.leads;
-              represented = record { at = after.at; on_disk = after.on_disk; kept = λ shared. kept shared after.at.shows.station.base after.at.shows.represented };
+              represented = record {
+                at = after.at;
+                on_disk = after.on_disk;
+                folder = record {
+                  files = shown-as after.scan.shows.station after.at.shows.station (state whole).seen after.scan.after after.scan.shows.there after.at.shows.there (after.folder listed counted represented.folder);
+                  on_disk = on;
+                };
+                kept = λ shared. kept shared after.at.shows.station.base after.at.shows.represented;
+              };
               elsewhere = elsewhere;
             };
           },
           (after.scan, refl),
         );
-    none = λ was kept. record {
+    none = λ before kept folder. record {
       may = refl;
-      represented = record { at = was.at; on_disk = was.on_disk; kept = λ shared. kept shared was.at.shows.station.base was.at.shows.represented };
+      represented = record {
+        at = before.at;
+        on_disk = before.on_disk;
+        folder = record { files = shown-as was before.at.shows.station (state whole).seen d represented.at.shows.there before.at.shows.there folder.files; on_disk = folder.on_disk };
+        kept = λ shared. kept shared before.at.shows.station.base before.at.shows.represented;
+      };
       elsewhere = elsewhere;
     };
   }
 
 pub scans-go-on : {D Kept : Type 0} (state : D → DiskState) (place : Kept → Place) (IsTrue : Files → Type 0) → ScansGoOn state place IsTrue
-scans-go-on state place IsTrue seats seat i stamp d ended old whole result represented does =
-    goes-on state place IsTrue seats seat i stamp d ended represented.at.shows.station.base old whole result does represented.on_disk
+scans-go-on state place IsTrue seats seat i stamp d ended old whole result represented listed counted does = goes-on state place IsTrue seats seat i stamp d ended old whole result represented listed counted does
 
 pub tosses-go-on : {D Kept : Type 0} (state : D → DiskState) (place : Kept → Place) → TossesGoOn state place
-tosses-go-on state place seats seat i indexes left d old new result answer tosses is kept =
+tosses-go-on state place seats seat i indexes left d old new result answer represented tosses is kept =
     let after = tosses.ends answer is in
+    let was = represented.at.shows.station in
+    let folder = folder-kept (place seat.kept) seat.outbound i was (state old) d represented.folder (place seat.kept) (state new) tosses.does.elsewhere (λ m below not own. not own) in
     record {
       goes = record {
         command = after.at.leads.command;
@@ -111,7 +141,16 @@ tosses-go-on state place seats seat i indexes left d old new result answer tosse
         next = after.at.after;
         ended = record {
           may = after.at.leads.leads;
-          represented = record { at = after.at.at; on_disk = after.at.on_disk; kept = λ shared. kept shared after.at.at.shows.station.base after.at.at.shows.represented };
+          represented = record {
+            at = after.at.at;
+            on_disk = after.at.on_disk;
+            folder = record {
+              files = folder-led (place seat.kept) seat.outbound i was after.at.at.shows.station (state new).seen d after.at.after after.at.leads.command (subst IsNoScan (sym after.at.leads.is) tt) after.at.leads.leads
+                  represented.at.shows.there after.at.at.shows.there folder.files;
+              on_disk = folder.on_disk;
+            };
+            kept = λ shared. kept shared after.at.at.shows.station.base after.at.at.shows.represented;
+          };
           elsewhere = reaches-by (place seat.kept) (reach place seat) (state old) (state new) (λ m own. inl own) tosses.does.elsewhere;
         };
       };

@@ -1,10 +1,13 @@
 -- One step after another.
-use Rattle.std.proofs.Common.{inr, sym, subst, ℕ, List, [], ◌∷◌, Option, Some, None}
+use Rattle.std.proofs.Common.{◌≡◌, ◌∙◌, inr, sym, subst, ap, ℕ, List, [], ◌∷◌, ◌++◌, Option, Some, None, Ok}
 use Rattle.disk_io.specs.Disk.{DiskState}
+use Rattle.echo_links.specs.LinkLines.{LinksOf}
+use Rattle.model_graph.specs.Walk.{Among}
+use Rattle.model_run.proofs.Targets.{some_same}
 use Rattle.station.specs.Place.{Place}
 use Rattle.law_stations.specs.Steps.{Crashes, Ends, Goes, GoesBy, GoesOn, Happening, IsCut, MayLead, OthersChange, Step, after, after_all, commands_by, commands_of, with_command}
-use Rattle.law_stations.specs.{AnyDisks.disks_at, Commands.Command, Commands.CommandEvent, Disks.Disks, Stopping.MayHappenAll, Seats.AreNeighbours, Seats.AreSeated, Seats.Seat, Sequences.HeadlineFromAnySequences, Sequences.SequencesAreAmong}
-use Rattle.law_stations.proofs.{AnyDisks.headline-from-any-disks, Seated.changed, Seated.crashed, Seated.cut, Seated.ended}
+use Rattle.law_stations.specs.{AnyDisks.disks_at, Commands.Command, Commands.CommandEvent, Disks.Disks, Stopping.MayHappenAll, Seats.AreNeighbours, Seats.AreSeated, Seats.Seat, Sequences.AlwaysHaveItsPackets, Sequences.HaveItsPackets, Sequences.HeadlineFromAnySequences, Sequences.SequencesAreAmong}
+use Rattle.law_stations.proofs.{AnyDisks.headline-from-any-disks, Folders.lead-keeps, Seated.changed, Seated.crashed, Seated.cut, Seated.ended}
 
 module _ {D Kept : Type 0} (state : D → DiskState) (place : Kept → Place) (seats : List (Seat Kept)) (near : AreNeighbours place seats) where
   stepped : (step : Step D) (disks : List D) (d next : Disks) → AreSeated state place seats disks d → Goes state place seats step disks d next
@@ -36,10 +39,37 @@ module _ {D Kept : Type 0} (state : D → DiskState) (place : Kept → Place) (s
       let (happen, then) = gone steps (after step disks) next last (stepped step disks d next seated goes) rest in
       (commanded step.disk step.what (state goes.old) (state step.then) (commands_of steps) d next last goes.by happen, then)
 
+module _ {D Kept : Type 0} (state : D → DiskState) (place : Kept → Place) (seats : List (Seat Kept)) (near : AreNeighbours place seats) where
+  by-keeps : (number : ℕ) (what : Happening D) (old then : DiskState) (d next : Disks) (bytes : List ℕ) → GoesBy state place seats number what d next old then → Among bytes d.net.packets → Among bytes next.net.packets
+  by-keeps number (Ends i command) old then d next bytes (seat, on, h) is = lead-keeps command i d next bytes h.may is
+  by-keeps number (IsCut i command whole) old then d next bytes (seat, on, w) is = lead-keeps command i d next bytes w.may is
+  by-keeps number Crashes old then d next bytes (same, h) is = lead-keeps None 0 d next bytes same is
+  by-keeps number OthersChange old then d next bytes (same, h) is = lead-keeps None 0 d next bytes same is
+
+  all-keep : (steps : List (Step D)) (disks : List D) (d last : Disks) (bytes : List ℕ) → GoesOn state place seats steps disks d last → Among bytes d.net.packets → Among bytes last.net.packets
+  all-keep [] disks d last bytes same is = lead-keeps None 0 d last bytes same is
+  all-keep (step ∷ steps) disks d last bytes (next, goes, rest) is =
+      all-keep steps (after step disks) next last bytes rest (by-keeps step.disk step.what (state goes.old) (state step.then) d next bytes goes.by is)
+
+  have : (disks : List D) (d last : Disks) → AreSeated state place seats disks d → ((bytes : List ℕ) → Among bytes d.net.packets → Among bytes last.net.packets) → HaveItsPackets state place seats last.net disks
+  have disks d last seated keep i seat disk file there on links name bytes is at =
+      let s = seated i seat there in
+      let one : s.disk ≡ disk = some_same (sym s.there ∙ on) in
+      let shown = s.represented in
+      let says = subst (λ (l : List ℕ). LinksOf l (Ok file)) (some_same (sym links.seen ∙ ap (λ (x : D). (state x).seen seat.links) (sym one) ∙ shown.at.shows.of_links)) links.judged in
+      keep bytes ((shown.folder.files file says).packets name bytes is (ap (λ (x : D). (state x).seen (seat.outbound ++ name)) one ∙ at))
+
+  always : (steps : List (Step D)) (disks : List D) (d last : Disks) → AreSeated state place seats disks d → GoesOn state place seats steps disks d last → AlwaysHaveItsPackets state place seats last.net steps disks
+  always [] disks d last seated same = have disks d last seated (λ bytes is. all-keep [] disks d last bytes same is)
+  always (step ∷ steps) disks d last seated (next, goes, rest) = (
+    have disks d last seated (λ bytes is. all-keep (step ∷ steps) disks d last bytes (next, goes, rest) is),
+    always steps (after step disks) next last (stepped state place seats near step disks d next seated goes) rest,
+  )
+
 pub sequences-are-among : {D Kept : Type 0} (state : D → DiskState) (place : Kept → Place) → SequencesAreAmong state place
 sequences-are-among state place seats near steps disks d last seated goes = gone state place seats near steps disks d last seated goes
 
 pub headline-from-any-sequences : {D Kept : Type 0} (state : D → DiskState) (place : Kept → Place) → HeadlineFromAnySequences state place
 headline-from-any-sequences state place nodelist more tag stations packets staging stopped old new good some key area is_new seats near steps disks last seated goes =
     let (happen, then) = sequences-are-among state place seats near steps disks (disks_at stations packets staging) last seated goes in
-    record { order = headline-from-any-disks nodelist more tag stations packets staging stopped old new good some key area is_new (commands_of steps) last happen; seated = then }
+    record { order = headline-from-any-disks nodelist more tag stations packets staging stopped old new good some key area is_new (commands_of steps) last happen; seated = then; sent = always state place seats near steps disks (disks_at stations packets staging) last seated goes }

@@ -39,7 +39,7 @@ all-named i c most (p ∷ ps) net has less =
       subst P (append_assoc net.packets (p.bytes ∷ []) (map bytes_of ps)) rest,
     )
 
-scan-far : (stamp : Stamp) (i : ℕ) (net new : Net) → Scans stamp net i new → ScansFar stamp i (disks_of net) (disks_of new)
+pub scan-far : (stamp : Stamp) (i : ℕ) (net new : Net) → Scans stamp net i new → ScansFar stamp i (disks_of net) (disks_of new)
 scan-far stamp i net new scans =
     let station = scans.station in
     let c = station.base.cursor in

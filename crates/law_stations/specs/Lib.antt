@@ -24,6 +24,5 @@ pub mod Asked
 pub mod Scanned
 pub mod Sequences
 pub mod PacketNames
-pub mod Folders
 pub mod SequenceExample
 pub mod ShownPackets

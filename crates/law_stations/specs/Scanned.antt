@@ -7,7 +7,7 @@ use Rattle.model_steps.specs.declared.stamp.Stamp.{Stamp}
 use Rattle.cmd_store.specs.{Coming.Coming, declared.command_error.CommandError.CommandError}
 use Rattle.station.specs.Place.{Place}
 use Rattle.station_scan.specs.declared.scan_error.ScanError.{ScanError}
-use Rattle.law_stations.specs.{Commands.Command, Commands.Scan, Commands.whole_of, Kinds.IsToss, Nets.with_indexes, Disks.Disks, OnDisks.IsAsBefore, OnDisks.TossesAsEvent, Scans.AreAfterScan, Scans.KeepsPackets, Scans.ScansAsEvent, Asked.GoesOnCut, Asked.GoesOnEnded, Asked.IsKeptWhereShared, Seats.Seat, Seats.RepresentsSeat, Steps.HasEnded, Steps.IsAllOnDisk}
+use Rattle.law_stations.specs.{Commands.Command, Commands.Scan, Commands.whole_of, Kinds.IsToss, Nets.Station, Nets.with_indexes, Disks.Disks, OnDisks.IsAsBefore, OnDisks.TossesAsEvent, PacketNames.IsFolderOn, PacketNames.IsListed, PacketNames.ShowsFolder, Scans.AreAfterScan, Scans.IsCounted, Scans.ScansAsEvent, Asked.GoesOnCut, Asked.GoesOnEnded, Asked.IsKeptWhereShared, Seats.Seat, Seats.RepresentsSeat, Steps.HasEnded, Steps.IsAllOnDisk}
 
 -- The packets that a toss tossed whole are delivered.
 pub record GoesOnTossed {Kept : Type 0} (place : Kept → Place) (seats : List (Seat Kept)) (seat : Seat Kept) (i : ℕ) (indexes : List ℕ) (answer : Option Fault) (left : List Coming) (d : Disks) (old new : DiskState) : Type 0 where
@@ -17,7 +17,7 @@ pub record GoesOnTossed {Kept : Type 0} (place : Kept → Place) (seats : List (
 -- A toss that ended well.
 abbrev pub TossesGoOn : {D Kept : Type 0} → (D → DiskState) → (Kept → Place) → Type 0
 TossesGoOn {D} {Kept} state place = (seats : List (Seat Kept)) (seat : Seat Kept) (i : ℕ) (indexes : List ℕ) (left : List Coming) (d : Disks) (old new : D) (result : Result (Option Fault) CommandError) (answer : Option Fault)
-    → TossesAsEvent indexes left (place seat.kept) seat.links i d (state old) (state new) result → result ≡ Ok answer → IsKeptWhereShared place seats seat i (state new)
+    → RepresentsSeat place seats i seat (state old) d → TossesAsEvent indexes left (place seat.kept) seat.links i d (state old) (state new) result → result ≡ Ok answer → IsKeptWhereShared place seats seat i (state new)
     → GoesOnTossed place seats seat i indexes answer left d (state old) (state new)
 
 -- The command is the scan with this timestamp.
@@ -28,26 +28,23 @@ IsScan stamp command = command ≡ Scan stamp
 abbrev pub HavePackets : Stamp → Place → List ℕ → List ℕ → ℕ → Disks → Disks → Base → Files → Disks → Type 0
 HavePackets stamp place links outbound i d ended base c next = (after : AreAfterScan stamp place links outbound i d ended base c) × (after.after ≡ next)
 
--- Before the commit the net goes on as it was, or with the packets of earlier scans under their names. The files have no other
--- packets.
-pub record GoesOnBefore (IsTrue : Files → Type 0) (place : Place) (links outbound : List ℕ) (i : ℕ) (d ended : Disks) (base : Base) (old : DiskState) (c : Files) (next : Disks) : Type 0 where
-  pub either : (next ≡ d) ⊎ (next ≡ ended)
-  pub packets : KeepsPackets IsTrue place links outbound i base.cursor old d c next
-
--- If a crash cuts a scan, or if the scan ends well, the net goes on by its command event, and the files have its packets.
--- If the station is unchanged, as after a fault, the net goes on by no event.
-pub record ScanGoesOn {D Kept : Type 0} (state : D → DiskState) (place : Kept → Place) (IsTrue : Files → Type 0) (seats : List (Seat Kept)) (seat : Seat Kept) (i : ℕ) (stamp : Stamp) (d finished : Disks) (base : Base) (old whole : D) (result : Result (Unit {0}) ScanError) : Type 0 where
+-- Of a scan with this timestamp, where the net without earlier staging files is `finished`. If a crash cuts it, the net goes on by its
+-- command event. Before the commit it is as it was, or only earlier staging files are finished. Then the files have the packets.
+-- If the scan ends well, and its folder is on the disk, the net goes on so too. If station and folder are unchanged, as after a
+-- fault, the net goes on by no event.
+pub record ScanGoesOn {D Kept : Type 0} (state : D → DiskState) (place : Kept → Place) (seats : List (Seat Kept)) (seat : Seat Kept) (i : ℕ) (stamp : Stamp) (d finished : Disks) (was : Station) (old whole : D) (result : Result (Unit {0}) ScanError) : Type 0 where
   pub cut : (begun : D) → (state whole).left_since (state old).moment (state begun).seen → IsAllOnDisk (state begun)
       → (goes : GoesOnCut (IsScan stamp) place seat i d (state old) (state whole) (state begun))
-      × (GoesOnBefore IsTrue (place seat.kept) seat.links seat.outbound i d finished base (state old) (state begun).seen goes.next ⊎ HavePackets stamp (place seat.kept) seat.links seat.outbound i d finished base (state begun).seen goes.next)
-  pub ended : result ≡ Ok tt → IsKeptWhereShared place seats seat i (state whole)
+      × (((goes.next ≡ d) ⊎ (goes.next ≡ finished)) ⊎ HavePackets stamp (place seat.kept) seat.links seat.outbound i d finished was.base (state begun).seen goes.next)
+  pub ended : result ≡ Ok tt → IsKeptWhereShared place seats seat i (state whole) → IsFolderOn (place seat.kept) seat.outbound (state whole)
       → (goes : GoesOnEnded (IsScan stamp) place seats seat i d (state old) (state whole))
-      × HavePackets stamp (place seat.kept) seat.links seat.outbound i d finished base (state whole).seen goes.next
-  pub none : IsAsBefore (place seat.kept) seat.links i d (state whole) → IsKeptWhereShared place seats seat i (state whole)
+      × HavePackets stamp (place seat.kept) seat.links seat.outbound i d finished was.base (state whole).seen goes.next
+  pub none : IsAsBefore (place seat.kept) seat.links i d (state whole) → IsKeptWhereShared place seats seat i (state whole) → ShowsFolder (place seat.kept) seat.outbound i was (state whole) d
       → HasEnded place seats seat i None d d (state old) (state whole)
 
+-- The list of earlier packets was true. The base is one, and of fewer than 2^32 scanned messages.
 abbrev pub ScansGoOn : {D Kept : Type 0} → (D → DiskState) → (Kept → Place) → (Files → Type 0) → Type 0
 ScansGoOn {D} {Kept} state place IsTrue = (seats : List (Seat Kept)) (seat : Seat Kept) (i : ℕ) (stamp : Stamp) (d ended : Disks) (old whole : D) (result : Result (Unit {0}) ScanError)
-    → (represented : RepresentsSeat place seats i seat (state old) d)
-    → ScansAsEvent stamp (place seat.kept) seat.links seat.outbound IsTrue i d ended represented.at.shows.station.base (state old) (state whole) result
-    → ScanGoesOn state place IsTrue seats seat i stamp d ended represented.at.shows.station.base old whole result
+    → (represented : RepresentsSeat place seats i seat (state old) d) → IsListed IsTrue (place seat.kept).is_own (state old) → IsCounted represented.at.shows.station.base
+    → ScansAsEvent stamp (place seat.kept) seat.links seat.outbound IsTrue i d ended represented.at.shows.station (state old) (state whole) result
+    → ScanGoesOn state place seats seat i stamp d ended represented.at.shows.station old whole result

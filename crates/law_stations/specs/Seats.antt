@@ -4,7 +4,7 @@ use Rattle.base_file.specs.Base.{Base}
 use Rattle.disk_io.specs.Disk.{DiskState, Files}
 use Rattle.model_run.specs.Run.{nth}
 use Rattle.station.specs.Place.{Place}
-use Rattle.law_stations.specs.{Disks.Disks, Neighbours.IsApart, Neighbours.IsKeptOn, OnDisks.IsStationAt, OnDisks.ShowsStation}
+use Rattle.law_stations.specs.{Disks.Disks, Neighbours.IsApart, Neighbours.IsKeptOn, OnDisks.IsStationAt, OnDisks.ShowsStation, PacketNames.ShowsFolder}
 
 -- The holder of a base: one of two kinds.
 pub data OfTwo (First Second : Type 0) : Type 0 where
@@ -44,16 +44,17 @@ pub record IsShared {Kept : Type 0} (seats : List (Seat Kept)) (i : ℕ) (seat :
 abbrev pub IsSettledByOwn : Place → Type 0
 IsSettledByOwn place = (base : Base) (before after : Files) → ((m : List ℕ) → place.is_own m → after m ≡ before m) → place.represents base before → place.represents base after
 
--- Neither of two stations on one disk touches the link file or the base of the other.
+-- Neither of two stations on one disk touches the link file, the base or the folder of packets of the other.
 pub record AreNeighbours {Kept : Type 0} (place : Kept → Place) (seats : List (Seat Kept)) : Type 0 where
-  pub apart : (i j : ℕ) (a b : Seat Kept) → nth i seats ≡ Some a → nth j seats ≡ Some b → i ≢ j → b.disk ≡ a.disk → IsApart (place b.kept) b.links (reach place a)
+  pub apart : (i j : ℕ) (a b : Seat Kept) → nth i seats ≡ Some a → nth j seats ≡ Some b → i ≢ j → b.disk ≡ a.disk → IsApart (reach place b) b.links (reach place a)
   pub settled : (i : ℕ) (seat : Seat Kept) → nth i seats ≡ Some seat → IsShared seats i seat → IsSettledByOwn (place seat.kept)
 
--- Between two steps the disk shows the link file and the base of the station, and each crash leaves them so. If the
--- station shares the disk, its base is on the disk.
+-- Between two steps the disk shows the link file and the base of the station, and each crash leaves them so. Its folder of packets
+-- is as the net has it. If the station shares the disk, its base is on the disk.
 pub record RepresentsSeat {Kept : Type 0} (place : Kept → Place) (seats : List (Seat Kept)) (i : ℕ) (seat : Seat Kept) (disk : DiskState) (d : Disks) : Type 0 where
   pub at : IsStationAt (place seat.kept) seat.links i disk d
   pub on_disk : (c : Files) → disk.may_leave c → ShowsStation (place seat.kept) seat.links i c d
+  pub folder : ShowsFolder (place seat.kept) seat.outbound i at.shows.station disk d
   pub kept : IsShared seats i seat → IsKeptOn (place seat.kept) at.shows.station.base disk
 
 -- Each station is on the disk so.

@@ -3,7 +3,7 @@ use Rattle.std.specs.Prelude.{◌≡◌, ℕ, List, [], ◌∷◌, Option, Some,
 use Rattle.disk_io.specs.Disk.{DiskState}
 use Rattle.model_run.specs.Run.{change, nth}
 use Rattle.station.specs.Place.{Place}
-use Rattle.law_stations.specs.{Commands.Command, Commands.CommandEvent, Disks.Disks, Stopping.PartialEffect, OnDisks.LeavesElsewhere, OnDisks.ShowsStation, Seats.Seat, Seats.RepresentsSeat, Seats.reach}
+use Rattle.law_stations.specs.{Commands.Command, Commands.CommandEvent, Disks.Disks, Stopping.PartialEffect, OnDisks.LeavesElsewhere, OnDisks.ShowsStation, PacketNames.IsFolderIn, Seats.Seat, Seats.RepresentsSeat, Seats.reach}
 
 -- A command at a station ends. Or a crash cuts it; without the crash it would have led to this disk. Or there is a crash
 -- between commands. Or others change the disk, as a mailer that takes packets away and brings some. `None` is a command
@@ -41,12 +41,14 @@ pub record HasEnded {Kept : Type 0} (place : Kept → Place) (seats : List (Seat
   pub represented : RepresentsSeat place seats i seat new next
   pub elsewhere : LeavesElsewhere (reach place seat) old new
 
--- A crash cut the command and left the state with which the disk begins: one to which the command may have led the net.
+-- A crash cut the command and left the state with which the disk begins: one to which the command may have led the net, with the
+-- folder of packets as that net has it.
 pub record WasCut {Kept : Type 0} (place : Kept → Place) (seat : Seat Kept) (i : ℕ) (command : Option Command) (d next : Disks) (old whole begun : DiskState) : Type 0 where
   pub left : whole.left_since old.moment begun.seen
   pub begins : IsAllOnDisk begun
   pub may : MayLead command i d next
   pub shows : ShowsStation (place seat.kept) seat.links i begun.seen next
+  pub folder : IsFolderIn (place seat.kept) seat.outbound i shows.station begun.seen next
   pub elsewhere : LeavesElsewhere (reach place seat) old whole
 
 -- A crash between commands left the state with which the disk begins, all of it on the disk.
@@ -59,7 +61,7 @@ pub record IsOn {Kept : Type 0} (seats : List (Seat Kept)) (number i : ℕ) (sea
   pub there : nth i seats ≡ Some seat
   pub on : seat.disk ≡ number
 
--- Others changed the disk, and left the link file and the base of each station on it.
+-- Others changed the disk. They left the link file and the base of each station on it, and of packets in its folder only what the net has.
 abbrev pub WereOthers : {Kept : Type 0} → (Kept → Place) → List (Seat Kept) → ℕ → Disks → DiskState → DiskState → Type 0
 WereOthers {Kept} place seats number d old then = (i : ℕ) (seat : Seat Kept) → IsOn seats number i seat → RepresentsSeat place seats i seat old d → RepresentsSeat place seats i seat then d
 

@@ -1,7 +1,7 @@
 //! Laws about files on disks: stations that share one, and packet files. Each law is the contract of a function that
 //! does nothing.
 ghost use Rattle.std.specs.Prelude.{ℕ, List};
-ghost use Rattle.law_stations.specs.{Commands.IsPacketAt, Nets.Paired, Folders.FoldersStay, ShownPackets.IsShownAt, Neighbours.OthersStay, Scans.with_packets_in};
+ghost use Rattle.law_stations.specs.{Commands.IsPacketAt, Nets.Paired, ShownPackets.IsShownAt, Neighbours.OthersStay, Scans.with_packets_in};
 
 use cmd_status::{PacketName, StreamPackets};
 use cmd_store::PacketFiles;
@@ -28,13 +28,4 @@ pub fn shown_packets_are_known<'a, D: Disk + Drop, N: PacketName, S: StreamPacke
 )
     ensures { (packets : List (List ℕ)) (indexes : List ℕ) → Paired (λ k name. IsShownAt packets (D.state _files.now.disk).seen k (N.is_usable name) (N.path name)) indexes _files.now.names.now
         → Paired (IsPacketAt packets) indexes (⟦<PacketsOnDisk<'a, D, N, S> as PacketFiles<'a>>⟧.coming _files.now) }
-{}
-
-/// A command that is no scan leaves the packets of a station on the disk as the net has them, and so does a crash. This
-/// asks that the folder of packets has no path of the place where the command ran.
-pub fn folders_stay<'a, D: Disk, P: OpenStation<'a, D>, O: OpenStation<'a, D>>(
-    _station: &P,
-    _other: &O,
-)
-    ensures { FoldersStay D.state (P.place _station.now) (O.place _other.now) }
 {}

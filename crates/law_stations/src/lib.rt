@@ -17,9 +17,9 @@
 //!
 //! Begin with specs/. `DiskKinds` says which command events a command may be. `OnDisks` says that a link file and a base
 //! on a disk are those of a station; `Scans` adds the packets of a scan. `PacketNames` has the folder of packets as the
-//! net has it, `Folders` what leaves it so, and `ShownPackets` the packet files of `toss`. `Neighbours` has other stations
-//! on the same disk. Then read `Seats` (stations on disks), `Steps` (the effect of a step), `Asked` and `Scanned` (which
-//! steps commands are), `Sequences` (the promise) and `SequenceExample`.
+//! net has it, and `ShownPackets` the packet files of `toss`. `Neighbours` has other stations on the same disk. Then read
+//! `Seats` (stations on disks), `Steps` (the effect of a step), `Asked` and `Scanned` (which steps commands are),
+//! `Sequences` (the promise) and `SequenceExample`.
 #![tactic(auto)]
 
 mod commands;
@@ -37,7 +37,7 @@ pub use crash_laws::{
     nets_are_sound_over_crashes, new_messages_are_in_order_over_crashes,
     whole_commands_are_among_them,
 };
-pub use disk_laws::{folders_stay, others_stay, shown_packets_are_known};
+pub use disk_laws::{others_stay, shown_packets_are_known};
 pub use laws::{
     command_is_events, commands_are_a_run, nets_are_sound, new_messages_are_in_order,
     tosses_answer_what_stopped_them, tosses_are_what_is_known,

@@ -1,14 +1,13 @@
 //! Laws about steps at stations. Each law is the contract of a function that does nothing.
 
-ghost use Rattle.model_steps.specs.declared.stamp.Stamp.{Stamp};
-ghost use Rattle.law_stations.specs.{Asked.CommandsGoOn, Scanned.ScansGoOn, Scanned.TossesGoOn, Seats.either, SequenceExample.CutScanGoesOn, Sequences.HeadlineFromAnySequences, Sequences.SequencesAreAmong};
+ghost use Rattle.law_stations.specs.{Asked.CommandsGoOn, Scanned.ScansGoOn, Scanned.TossesGoOn, Seats.either, SequenceExample.Story, SequenceExample.StoryGoesOn, Sequences.HeadlineFromAnySequences, Sequences.SequencesAreAmong};
 
 use disk_atomic::ListStaged;
 use disk_io::Disk;
 use station::OpenStation;
 
 /// Stations of two kinds are on disks, and several may share one. Commands run at them, and crashes cut these or come
-/// between them. At the end the disks show what these commands may lead a net to.
+/// between them. At the end the disks show what these commands may lead a net to: bases, link files and packets.
 pub fn sequences_are_among<'a, D: Disk, P: OpenStation<'a, D>, O: OpenStation<'a, D>>()
     ensures { SequencesAreAmong D.state (either P.place O.place) }
 {}
@@ -25,7 +24,8 @@ pub fn tosses_continue<'a, D: Disk, P: OpenStation<'a, D>, O: OpenStation<'a, D>
     ensures { TossesGoOn D.state (either P.place O.place) }
 {}
 
-/// Of a scan: whatever crash cuts it, if it ends well, and if it leaves the station as it was.
+/// Of a scan: whatever crash cuts it, if it ends well, and if it leaves the station as it was. If it ends well, its folder
+/// must be on the disk.
 pub fn scans_continue<'a, D: Disk, P: OpenStation<'a, D>, O: OpenStation<'a, D>, G: ListStaged>(
     _listing: &G,
 )
@@ -33,7 +33,7 @@ pub fn scans_continue<'a, D: Disk, P: OpenStation<'a, D>, O: OpenStation<'a, D>,
 {}
 
 /// The headline over sequences from any state on, for new messages: after any steps the disks show a net in which each
-/// message of the area is in order that nothing on them had at first.
+/// message of the area is in order that nothing on them had at first. All files that had packets' names are its packets.
 pub fn new_messages_are_in_order_over_sequences<
     'a,
     D: Disk,
@@ -43,7 +43,8 @@ pub fn new_messages_are_in_order_over_sequences<
     ensures { HeadlineFromAnySequences D.state (either P.place O.place) }
 {}
 
-/// Such sequences exist: at one station a crash cuts a scan, and the next scan removes what it left.
+/// Such sequences exist, if a posting, a scan and a toss have effects on a net: a post, a scan that a crash cuts, a crash
+/// before the next command, and a toss at the other station.
 pub fn a_cut_scan_goes_on()
-    ensures { (stamp : Stamp) → CutScanGoesOn stamp }
+    ensures { (story : Story) → StoryGoesOn story }
 {}

@@ -1,5 +1,5 @@
-use Rattle.law_stations.proofs.SequenceExample.{cut-scan-goes-on}
+use Rattle.law_stations.proofs.SequenceExample.{story-goes-on}
 use Rattle.law_stations.proofs.sequence_laws.a_cut_scan_goes_on.Goals as goal
 
 pub returns : goal.returns
-returns g stamp = cut-scan-goes-on stamp
+returns g story = story-goes-on story
