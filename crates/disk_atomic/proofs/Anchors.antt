@@ -1,12 +1,9 @@
 -- Packets that are whole on the disk at one of their two paths, while another packet gets its path.
-use Rattle.std.{proofs.Common.{◌≡◌, ◌⊎◌, inl, inr, ⊎_elim, ◌∙◌, Bool, true, false, List, ℕ, subst, sym, arith}, specs.Prelude.IsSome}
+use Rattle.std.{proofs.Common.{◌≡◌, ⊎_elim, ◌∙◌, List, ℕ, subst, sym, arith}, specs.Prelude.IsSome}
 use Rattle.disk_io.specs.Disk.{DiskState, Files}
-use Rattle.disk_atomic.specs.Naming.{HasItsPath, HasMoved, KeepsPath, Names, IsWholeAtEither, StaysThere}
+use Rattle.disk_atomic.specs.Naming.{HasItsPath, HasMoved, KeepsPath, Names, IsWholeAtEither}
 use Rattle.disk_atomic.specs.{Changes.ChangesOnly, Changes.HasOnDisk, Outgoing.AreApart, Outgoing.IsStaged, declared.outgoing.Outgoing.Outgoing}
 use Rattle.disk_atomic.proofs.{Changes.left_there, Changes.stays_on_disk, Packets.AtBoth}
-
-abbrev pub IsAnchored : (Outgoing → List ℕ) → DiskState → Outgoing → Type 0
-IsAnchored content disk p = HasOnDisk disk p.path.now (content p) ⊎ HasOnDisk disk p.staging.now (content p)
 
 abbrev pub IsSameAt : DiskState → DiskState → Outgoing → Type 0
 IsSameAt old new p = new.seen p.path.now ≡ old.seen p.path.now
@@ -20,10 +17,6 @@ module _ (content : Outgoing → List ℕ) (x y : Outgoing) (apart : AreApart x 
 
   -- a run at the paths of x
   module _ (d e : DiskState) (run : ChangesOnly (AtBoth x) d e) where
-    pub anchor_stays : IsAnchored content d y → IsAnchored content e y
-    anchor_stays was =
-        ⊎_elim (λ on. inl (stays_on_disk (AtBoth x) d e y.path.now (content y) run not_path on)) (λ on. inr (stays_on_disk (AtBoth x) d e y.staging.now (content y) run not_staging on)) was
-
     pub staged_stays : IsStaged content d y → IsStaged content e y
     staged_stays was = grind (arith, stays_on_disk, not_staging, not_path)
 
@@ -36,8 +29,8 @@ module _ (content : Outgoing → List ℕ) (x y : Outgoing) (apart : AreApart x 
     pub path_stays : (d0 : DiskState) → KeepsPath d0 d y → KeepsPath d0 e y
     path_stays d0 was some = run.seen y.path.now not_path ∙ was some
 
-  pub whole_stays : (d : DiskState) (b c : Files) → d.may_leave b → Names x.path.now x.staging.now b c → IsAnchored content d y → IsWholeAtEither content c y
-  whole_stays d b c left names on = grind (arith, ⊎_elim, not_path, left_there, not_staging)
+  pub whole_stays : (a b c : Files) → Names x.path.now x.staging.now b c → IsWholeAtEither content a b y → IsWholeAtEither content a c y
+  whole_stays a b c names was = grind (arith, ⊎_elim, not_path, not_staging)
 
 pub path_now : (x : Outgoing) (d0 d e : DiskState) → IsSameAt d0 d x → KeepsPath d e x → KeepsPath d0 e x
 path_now x d0 d e same keeps some = keeps (subst (λ f. IsSome f) (sym same) some) ∙ same
@@ -47,8 +40,5 @@ module _ (content : Outgoing → List ℕ) (x : Outgoing) (d e : DiskState) (sta
   pub has_path : HasMoved d e x.path.now x.staging.now → HasItsPath content e x
   has_path moved = record { file = record { seen = moved.seen ∙ staged.seen; named = moved.named; flushed = moved.flushed }; gone = moved.gone }
 
-  pub anchored_now : (named : Bool) → (named ≡ true → HasMoved d e x.path.now x.staging.now) → (named ≡ false → StaysThere d e x.staging.now) → IsAnchored content e x
-  anchored_now named h1 h2 = grind (arith, has_path)
-
-  pub whole_now : (b c : Files) → d.may_leave b → Names x.path.now x.staging.now b c → IsWholeAtEither content c x
-  whole_now b c left names = grind (arith, left_there, ⊎_elim)
+  pub whole_now : (a b c : Files) → d.may_leave b → Names x.path.now x.staging.now b c → IsWholeAtEither content a b x → IsWholeAtEither content a c x
+  whole_now a b c left names was = grind (arith, left_there, ⊎_elim)

@@ -17,11 +17,11 @@ abbrev pub AtLeft : Left → List ℕ → Type 0
 AtLeft l m = (m ≡ l.staging.now) ⊎ (m ≡ l.path.now)
 
 pub ends_same : (cursor : ℕ) (a b : Files) (l : Left) → b l.staging.now ≡ a l.staging.now → b l.path.now ≡ a l.path.now → EndsAs cursor a b l
-ends_same cursor a b l staging path = record { committed = λ lt. inr staging; untouched = λ le. path; either = inl path }
+ends_same cursor a b l staging path = record { committed = λ lt. inr staging; untouched = λ le. path; either = inl path; staged = inl staging }
 
 -- if the cursor was moved past the packet, its naming finishes it
 pub named_finishes : (cursor : ℕ) (l : Left) → l.before < cursor → (a c : Files) → Names l.path.now l.staging.now a c → Finishes cursor l a c
-named_finishes cursor l lt a c n = record { others = n.others; ends = record { committed = λ is. n.stands; untouched = λ le. absurd (omega arith); either = n.either } }
+named_finishes cursor l lt a c n = record { others = n.others; ends = record { committed = λ is. n.stands; untouched = λ le. absurd (omega arith); either = n.either; staged = n.staged } }
 
 pub quiet_then : (d0 d1 d2 : DiskState) (Q P : Files → Files → Type 0) → ChangesNothing d0 d1 → ((c : Files) → P c c) → LeavesOnly d1 d2 (OneStepOn Q d1) → ((a c : Files) → Q a c → P a c) → LeavesOnly d0 d2 (OneStepOn P d0)
 quiet_then d0 d1 d2 Q P quiet none run gives = grind (arith, then_run, weaker_run)
@@ -107,5 +107,5 @@ removed_finishes cursor l le other old new named call =
     let path : c l.path.now ≡ a l.path.now = removes.others l.path.now (λ e. other (sym e)) (inl named) in
     record {
       others = λ m out. removes.others m (λ e. out (inl e)) (inl named);
-      ends = record { committed = λ lt. absurd (omega arith); untouched = λ is. path; either = inl path };
+      ends = record { committed = λ lt. absurd (omega arith); untouched = λ is. path; either = inl path; staged = removes.within named };
     })

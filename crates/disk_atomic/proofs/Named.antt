@@ -11,13 +11,14 @@ Links path staging old new = ChangesAt (ThisPath path) (ThisPath path) (EitherPa
 module _ (path staging : List ℕ) (other : staging ≢ path) where
   pub linked_run : (old new : DiskState) → old.is_named staging → old.is_flushed staging → old.is_named path → Links path staging old new → LeavesOnly old new (OneStepOn (Names path staging) old)
   linked_run old new named flushed free call =
-      one_call old new (Names path staging) (λ c. record { others = λ m out. refl; stands = inr refl; either = inl refl }) call
+      one_call old new (Names path staging) (λ c. record { others = λ m out. refl; stands = inr refl; either = inl refl; staged = inl refl }) call
       (λ a c left links.
       let there : a staging ≡ old.seen staging = old.on_disk staging named flushed a left in
       record {
         others = λ m out. links.others m (λ e. out (inr e)) (inl free);
         stands = inr (links.others staging other (inl free));
         either = ⊎_elim (λ same. inl same) (λ new. inr (new ∙ sym there)) (links.within free);
+        staged = inl (links.others staging other (inl free));
       })
 
   pub moved_run : (d0 d1 d2 : DiskState) → LeavesOnly d0 d1 (OneStepOn (Names path staging) d0) → d0.is_named staging → d0.is_flushed staging → d1.is_named staging
@@ -29,7 +30,12 @@ module _ (path staging : List ℕ) (other : staging ≢ path) where
       then_steps d0 d1 d2 R step R run (one_call d1 d2 step (ChangesFile-none d1 staging TornRemoval (λ f. inl refl)) call (λ a c left s. s)) (λ a b r. r)
       (λ a b c at left r q.
       let same : c path ≡ a staging = q.others path (λ e. other (sym e)) (inl still) ∙ d1.on_disk path path_named path_flushed b left ∙ is ∙ sym (d0.on_disk staging named flushed a at) in
-      record { others = λ m out. q.others m (λ e. out (inl e)) (inl still) ∙ r.others m out; stands = inl same; either = inr same })
+      record {
+        others = λ m out. q.others m (λ e. out (inl e)) (inl still) ∙ r.others m out;
+        stands = inl same;
+        either = inr same;
+        staged = ⊎_elim (λ kept. ⊎_elim (λ was. inl (kept ∙ was)) (λ none. inr (kept ∙ none)) r.staged) (λ none. inr none) (q.within still);
+      })
 
 pub link_gives : (path staging : List ℕ) → staging ≢ path → (old new : DiskState) → old.is_named staging → old.is_flushed staging → old.is_named path → Links path staging old new
     → Honestly new (IsSome (old.seen path) → new.seen path ≡ old.seen path) → Gives old new path staging

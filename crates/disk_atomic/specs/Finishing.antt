@@ -42,11 +42,13 @@ pub record IsOver (cursor : ℕ) (old new : DiskState) (l : Left) : Type 0 where
 abbrev pub KeepsFile : DiskState → DiskState → Left → Type 0
 KeepsFile old new l = IsSome (old.seen l.path.now) → new.seen l.path.now ≡ old.seen l.path.now
 
--- If the cursor was moved past it, its bytes are at one of its two paths. Otherwise its path is unchanged.
+-- If the cursor was moved past it, its bytes are at one of its two paths. Otherwise its path is unchanged. Its staging path is
+-- unchanged or has no file.
 pub record EndsAs (cursor : ℕ) (before after : Files) (l : Left) : Type 0 where
   pub committed : l.before < cursor → (after l.path.now ≡ before l.staging.now) ⊎ (after l.staging.now ≡ before l.staging.now)
   pub untouched : cursor ≤ l.before → after l.path.now ≡ before l.path.now
   pub either : (after l.path.now ≡ before l.path.now) ⊎ (after l.path.now ≡ before l.staging.now)
+  pub staged : (after l.staging.now ≡ before l.staging.now) ⊎ (after l.staging.now ≡ None)
 
 -- This packet ends in this way, and everything else is unchanged.
 pub record Finishes (cursor : ℕ) (l : Left) (before after : Files) : Type 0 where

@@ -1,5 +1,5 @@
 -- The list of staging files that earlier scans left.
-use Rattle.std.specs.Prelude.{◌≡◌, ◌≢◌, ℕ, List, ◌++◌, All, Contains, codes, decimal, IsSome}
+use Rattle.std.specs.Prelude.{◌≡◌, ◌≢◌, ◌<◌, ◌^◌, ℕ, List, ◌++◌, All, Contains, codes, decimal, IsSome}
 use Rattle.disk_io.specs.Disk.{Files}
 use Rattle.disk_atomic.specs.{StagingPaths.staging_path, declared.listing.StagedPacket.StagedPacket}
 
@@ -8,10 +8,11 @@ pub record IsNameByte (b : ℕ) : Type 0 where
   pub no_slash : b ≢ 47
   pub no_tilde : b ≢ 126
 
--- The name of a packet of a scan. `before` is the number of messages scanned earlier.
+-- The name of a packet of a scan. `before` is the number of messages scanned earlier, which has four bytes.
 pub record IsNumbered (before : ℕ) (name : List ℕ) : Type 0 where
   pub front : List ℕ
   pub parts : name ≡ front ++ (codes "." ++ (decimal before ++ codes ".pkt"))
+  pub within : before < 2 ^ 32
   pub plain : All IsNameByte name
 
 -- This name in the folder has a staging file of the system with this own name.

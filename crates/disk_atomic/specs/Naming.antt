@@ -3,11 +3,13 @@ use Rattle.std.specs.Prelude.{◌≡◌, ◌≢◌, ◌⊎◌, ℕ, List, All, S
 use Rattle.disk_io.specs.{Disk.DiskState, Disk.Files, Disk.Honestly, Disk.IsIn, Runs.LeavesOnly, Runs.OneStepOn}
 use Rattle.disk_atomic.specs.{Changes.ChangesOnly, Changes.DifferAt, Changes.HasOnDisk, Outgoing.IsOfOne, declared.outgoing.Outgoing.Outgoing}
 
--- The staging file is at one of the two paths, and the path is unchanged or has that file. Everything else is unchanged.
+-- The staging file is at one of the two paths. The path is unchanged or has that file, and the staging path is unchanged or has none.
+-- Everything else is unchanged.
 pub record Names (path staging : List ℕ) (before after : Files) : Type 0 where
   pub others : DifferAt (λ m. (m ≡ staging) ⊎ (m ≡ path)) before after
   pub stands : (after path ≡ before staging) ⊎ (after staging ≡ before staging)
   pub either : (after path ≡ before path) ⊎ (after path ≡ before staging)
+  pub staged : (after staging ≡ before staging) ⊎ (after staging ≡ None)
 
 -- The path leads to the same file, or still to no file. It is still on the disk if it was.
 pub record StaysThere (old new : DiskState) (path : List ℕ) : Type 0 where
@@ -46,14 +48,17 @@ pub record IsTaken (old : DiskState) (path staging : List ℕ) : Type 0 where
   pub there : IsSome (old.seen path)
   pub other : old.seen path ≢ old.seen staging
 
--- The packet is whole at one of its two paths.
-abbrev pub IsWholeAtEither : (Outgoing → List ℕ) → Files → Outgoing → Type 0
-IsWholeAtEither content c p = (c p.path.now ≡ Some (content p)) ⊎ (c p.staging.now ≡ Some (content p))
+-- The packet is whole at its path, and its staging path has it too or no file. Or it is whole at its staging path, and its path is
+-- unchanged.
+abbrev pub IsWholeAtEither : (Outgoing → List ℕ) → Files → Files → Outgoing → Type 0
+IsWholeAtEither content before after p =
+    ((after p.path.now ≡ Some (content p)) × ((after p.staging.now ≡ Some (content p)) ⊎ (after p.staging.now ≡ None)))
+    ⊎ ((after p.staging.now ≡ Some (content p)) × (after p.path.now ≡ before p.path.now))
 
--- Each packet is whole at one of its two paths, and everything else is unchanged.
+-- Each packet is whole so, and everything else is unchanged.
 pub record NamesEach (content : Outgoing → List ℕ) (packets : List Outgoing) (before after : Files) : Type 0 where
   pub others : DifferAt (IsOfOne packets) before after
-  pub whole : All (IsWholeAtEither content after) packets
+  pub whole : All (IsWholeAtEither content before after) packets
 
 abbrev pub KeepsPath : DiskState → DiskState → Outgoing → Type 0
 KeepsPath old new p = IsSome (old.seen p.path.now) → new.seen p.path.now ≡ old.seen p.path.now

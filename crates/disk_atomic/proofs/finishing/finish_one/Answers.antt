@@ -1,4 +1,4 @@
-use Rattle.std.proofs.{Common.inl, Common.true, Common.arith, Common.refl, lemmas.Result.IfOk-weaker, lemmas.Result.on_ok_weaker}
+use Rattle.std.proofs.{Common.inl, Common.arith, Common.refl, lemmas.Result.IfOk-weaker, lemmas.Result.on_ok_weaker}
 use Rattle.disk_io.{specs.{Steps.TornRemoval, Runs.{LeavesOnly, OneStepOn}}, proofs.Moments.weaker_run}
 use Rattle.disk_atomic.{specs.{Changes.ChangesOnly, Finishing.Finishes}, proofs.Ended.{AtLeft, ends_same, named_finishes, quiet_then, removed_finishes}}
 use Rattle.disk_atomic.proofs.{Changes.only_nothing, Changes.only_path, Changes.then_only, Whole.none_is_not_there, finishing.finish_one.Goals.After-remove}

@@ -1,4 +1,4 @@
-use Rattle.std.proofs.{Common.◌∙◌, Common.true, Common.false, Common.arith, lemmas.Result.IfOk-weaker}
+use Rattle.std.proofs.{Common.◌∙◌, Common.arith, lemmas.Result.IfOk-weaker}
 use Rattle.disk_atomic.proofs.{Named.gives_quiet, Whole.none_is_not_there, Whole.on_ok_any, Whole.there_unless}
 use Rattle.disk_atomic.proofs.naming.give_path.Goals as goal
 

@@ -1,6 +1,6 @@
-use Rattle.std.proofs.{Common.{◌<◌, ◌∙◌, get_or, inr, ⊎_elim, length, arith}, lemmas.Bool.and_parts}
+use Rattle.std.proofs.{Common.{◌<◌, ◌∙◌, get_or, ⊎_elim, length, arith}, lemmas.Bool.and_parts}
 use Rattle.disk_atomic.specs.{Naming.HasItsPath, Naming.KeepsPath, Naming.Names, Naming.NamesEach, Naming.IsWholeAtEither, Outgoing.AreApart, Outgoing.IsOfOne, Outgoing.IsStaged, Outgoing.staged_in}
-use Rattle.disk_atomic.proofs.Anchors.{anchor_stays, anchored_now, has_path, has_path_stays, IsAnchored, IsSameAt, path_now, path_stays, same_stays, staged_stays, whole_now, whole_stays}
+use Rattle.disk_atomic.proofs.Anchors.{has_path, has_path_stays, IsSameAt, path_now, path_stays, same_stays, staged_stays, whole_now, whole_stays}
 use Rattle.disk_atomic.proofs.Each.{ahead, among, behind, each, here}
 use Rattle.disk_atomic.proofs.{Changes.then_only, Changes.then_steps, Packets.apart_back, Packets.nobody, Packets.of_one, Whole.none_is_not_there, Whole.one_false}
 use Rattle.disk_atomic.proofs.naming.name_packets.Goals as goal
@@ -35,8 +35,8 @@ returns-in_err-all-clause-any_moment g c honest =
     then_steps d0 d e (NamesEach of packets) (Names x.path.now x.staging.now) (NamesEach of packets) (inv.any_moment h1) (moments honest) (λ a b r. r)
     (λ a b f at left r q. record {
       others = λ m out. q.others m (λ o. out (x, among packets i z lt, o)) ∙ r.others m out;
-      whole = each AreApart apart_back packets pairs i z lt (IsAnchored of d) (IsStaged of d) (IsWholeAtEither of f) (λ y apart on. whole_stays of x y apart d b f left q on) (λ y apart on. whole_stays of x y apart d b f left q (inr on.file))
-          (whole_now of x d e staged.file b f left q) (inv.anchored h1) inv.staged;
+      whole = each AreApart apart_back packets pairs i z lt (IsWholeAtEither of a b) (IsWholeAtEither of a b) (IsWholeAtEither of a f) (λ y apart was. whole_stays of x y apart a b f q was) (λ y apart was. whole_stays of x y apart a b f q was)
+          (whole_now of x d e staged.file a b f left q (r.whole i z lt)) (λ k w low high. r.whole k w (omega arith)) (λ k w low high. r.whole k w high);
     })
 
 pub returns-in_err-all-clause-kept : goal.returns-in_err-all-clause-kept
@@ -71,7 +71,6 @@ packets-preserved g c =
     let now = c.in_ok-all.ensures in
     let one = c.name_packet.ensures.changes in
     let moved = now.named in
-    let stays = now.stays in
     let taken = now.taken in
     let moments = c.name_packet.ensures.any_moment in
     let staged = here (IsStaged of d) packets i z lt inv.staged in
@@ -83,11 +82,9 @@ packets-preserved g c =
           then_steps d0 d e (NamesEach of packets) (Names x.path.now x.staging.now) (NamesEach of packets) (inv.any_moment h1) (moments honest) (λ a b r. r)
           (λ a b f at left r q. record {
             others = λ m out. q.others m (λ o. out (x, among packets i z lt, o)) ∙ r.others m out;
-            whole = each AreApart apart_back packets pairs i z lt (IsAnchored of d) (IsStaged of d) (IsWholeAtEither of f) (λ y apart on. whole_stays of x y apart d b f left q on) (λ y apart on. whole_stays of x y apart d b f left q (inr on.file))
-                (whole_now of x d e staged.file b f left q) (inv.anchored h1) inv.staged;
+            whole = each AreApart apart_back packets pairs i z lt (IsWholeAtEither of a b) (IsWholeAtEither of a b) (IsWholeAtEither of a f) (λ y apart was. whole_stays of x y apart a b f q was) (λ y apart was. whole_stays of x y apart a b f q was)
+                (whole_now of x d e staged.file a b f left q (r.whole i z lt)) (λ k w low high. r.whole k w (omega arith)) (λ k w low high. r.whole k w high);
           });
-      anchored = λ honest. behind AreApart apart_back packets pairs i z lt (IsAnchored of d) (IsAnchored of e) (λ y apart. anchor_stays of x y apart d e one)
-          (anchored_now of x d e staged.file c.in_ok-all.field-0 (moved honest) stays) (inv.anchored (one.honest honest));
       staged = ahead AreApart apart_back packets pairs i z lt (IsStaged of d) (IsStaged of e) (λ y apart. staged_stays of x y apart d e one) inv.staged;
       same = ahead AreApart apart_back packets pairs i z lt (IsSameAt d0 d) (IsSameAt d0 e) (λ y apart. same_stays of x y apart d e one d0) inv.same;
       named = λ honest is.
