@@ -4,10 +4,11 @@ ghost use Rattle.base_folder.specs.Source.{LooksAt};
 use base_file::BaseFault;
 use base_folder::{BaseReader, Distinct, FillError, MessageSource, SendError, fill, send_file};
 use base_store::SipDigest;
-use cmd_input::{
-    BASE_START, drawn_key, flush_name, folder_path, is_folder, is_strange, is_unused,
-    locked_folder, messages_fault, open_folder_reader, output_fault, read_file,
+use cmd_base::{
+    BASE_START, drawn_key, flush_name, is_folder, is_strange, is_unused, messages_fault,
+    open_folder_reader,
 };
+use cmd_input::{folder_path, locked_folder, output_fault, read_file};
 use cmd_status::{Fault, Status, print_rest};
 use disk_io::{Sink, Watched};
 use disk_system::{

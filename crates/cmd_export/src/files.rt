@@ -1,4 +1,5 @@
-use cmd_input::{Messages, Progress, folder_fault, input_fault};
+use cmd_base::Messages;
+use cmd_input::{Progress, folder_fault, input_fault};
 use cmd_status::Fault;
 use disk_io::{Buffered, Watched};
 use disk_system::read_whole;

@@ -1,7 +1,8 @@
 //! `list` and `export` of a base folder: the messages that are asked for are all read before a line is printed.
 
 use crate::bases::{asked_area, list_query};
-use cmd_input::{Progress, open_folder_reader};
+use cmd_base::open_folder_reader;
+use cmd_input::Progress;
 use cmd_repair::list_ids;
 use cmd_show::{ExportQuery, export_messages, list_areas_streamed, list_messages};
 use cmd_status::{Fault, Status};

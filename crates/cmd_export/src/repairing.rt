@@ -4,10 +4,8 @@ ghost use Rattle.std.specs.Prelude.{◌≡◌, None};
 
 use crate::resending::check_owner;
 use base_folder::MessageSource;
-use cmd_input::{
-    LinkLock, MAX_INPUT, folder_path, is_folder, load_base, open_folder_reader, output_fault,
-    read_given,
-};
+use cmd_base::{is_folder, load_base, open_folder_reader};
+use cmd_input::{LinkLock, MAX_INPUT, folder_path, output_fault, read_given};
 use cmd_repair::{KnownIds, SendFault, check_linked, push_nothing, read_ids, send_all};
 use cmd_status::{Fault, FileLock, Status, print_rest};
 use cmd_store::{push_counted, repair_name};

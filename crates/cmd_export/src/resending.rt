@@ -4,10 +4,8 @@ ghost use Rattle.std.specs.Prelude.{◌≡◌, None};
 use crate::repairing::run_repair;
 use base_file::BaseFault;
 use base_folder::{judge_owner, log_end};
-use cmd_input::{
-    LinkLock, folder_path, is_folder, is_strange, named_stamp, open_folder_reader, output_fault,
-    read_file,
-};
+use cmd_base::{is_folder, is_strange, open_folder_reader};
+use cmd_input::{LinkLock, folder_path, named_stamp, output_fault, read_file};
 use cmd_numbered::{resend, resend_streamed};
 use cmd_repair::check_linked;
 use cmd_status::{Fault, FileLock, Status, parse_address, parse_number, print_rest};

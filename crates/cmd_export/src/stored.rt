@@ -4,10 +4,8 @@
 ghost use Rattle.std.specs.Prelude.{◌≢◌, IfErr};
 
 use base_folder::MessageSource;
-use cmd_input::{
-    folder_fault, folder_path, is_folder, load_base, locked_folder, open_folder_reader,
-    output_fault, read_file,
-};
+use cmd_base::{is_folder, load_base, open_folder_reader};
+use cmd_input::{folder_fault, folder_path, locked_folder, output_fault, read_file};
 use cmd_numbered::{
     ExportError, Exported, LastFile, MessageFile, MessageFolder, export_files, is_left,
     stored_number, tell_exported,

@@ -11,7 +11,7 @@ use crate::locked::{begun_again, locked_headers};
 use crate::named::{bytes_of, jam_fault, open_or_make, write_at};
 use crate::texts::{ROOM, Texts};
 use base_folder::MessageSource;
-use cmd_input::{is_folder, load_base, open_folder_reader};
+use cmd_base::{is_folder, load_base, open_folder_reader};
 use cmd_numbered::{JamBase, JamEnd, JamExport, JamExportError, export_jam, tell_added, tell_cuts};
 use cmd_status::{Fault, Status, ended, parse_number};
 use cmd_words::ExportJamWords;

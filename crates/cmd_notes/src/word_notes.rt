@@ -3,7 +3,8 @@
 use crate::notes::{FaultLine, is_there, tell};
 use crate::reasons::{LongField, Reason, WordForm, WrongWord};
 use base_folder::{BaseReader, MessageSource, fetch_message};
-use cmd_input::{is_folder, load_base, open_folder_reader, read_file};
+use cmd_base::{is_folder, load_base, open_folder_reader};
+use cmd_input::read_file;
 use cmd_status::{Fault, parse_number};
 use cmd_words::ReplyWords;
 use disk_io::Sink;

@@ -3,7 +3,8 @@ ghost use Rattle.std.specs.Prelude.{◌≡◌, None};
 
 use crate::changing::{BaseCommand, PostEnd, find_and_post};
 use base_file::BaseFault;
-use cmd_input::{LinkLock, is_folder, named_serial, named_stamp, open_folder_reader, read_file};
+use cmd_base::{is_folder, open_folder_reader};
+use cmd_input::{LinkLock, named_serial, named_stamp, read_file};
 use cmd_jam::Outbox;
 use cmd_numbered::{PostedWords, is_posted, is_posted_streamed, own_serial, tell_refused};
 use cmd_status::{Fault, FileLock, Status};

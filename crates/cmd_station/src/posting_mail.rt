@@ -4,9 +4,9 @@ ghost use Rattle.std.specs.Prelude.{◌≡◌, None};
 
 use crate::changing::{BaseCommand, find_and_change};
 use base_file::BaseFault;
+use cmd_base::{is_folder, open_folder_reader};
 use cmd_input::{
-    LinkLock, MAX_TEXT_FILE, is_folder, named_serial, named_stamp, open_folder_reader, read_file,
-    read_standard_input,
+    LinkLock, MAX_TEXT_FILE, named_serial, named_stamp, read_file, read_standard_input,
 };
 use cmd_numbered::{Answered, find_answered, find_answered_streamed};
 use cmd_status::{Fault, FileLock, Status};

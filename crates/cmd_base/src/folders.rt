@@ -1,11 +1,13 @@
 //! Base folders: which BASE is one, and its files.
 ghost use Rattle.std.specs.Prelude.{IfOk};
 
-use crate::{Messages, Progress, folder_fault, folder_path, output_fault, read_file};
 use base_file::BaseFault;
-use base_folder::{BaseReader, FolderReader, MessageSource, OpenError, log_end, read_folder};
+use base_folder::{
+    BaseReader, FolderReader, MessageSource, OpenError, ReadingProgress, log_end, read_folder,
+};
 use base_store::SipDigest;
-use cmd_status::Fault;
+use cmd_input::{Progress, folder_fault, folder_path, output_fault, read_file};
+use cmd_status::{Fault, MessageProgress};
 use disk_system::{RealDisk, Unknown, flush_path};
 use std::collections::hash_map::RandomState;
 use std::fs::DirEntry;
@@ -27,6 +29,28 @@ pub fn flush_name<'a>(rt: &HostRuntime, base: &'a str, messages: usize) -> Resul
     }
     let name = base.trim_end_matches('/');
     flush_path(rt.alloc(), rt, name).map_err(|fault| output_fault(fault, base))
+}
+
+/// Reports at which message a command is, if a progress line is given.
+#[derive(Clone, Copy, Drop)]
+pub struct Messages<'p, 'r> {
+    pub progress: Option<&'p Progress<'r>>,
+}
+
+impl MessageProgress for Messages<'_, '_> {
+    fn tell(&self, place: usize, messages: usize) {
+        if let Some(progress) = self.progress {
+            if progress.is_due() {
+                progress.tell_message((place as u64).saturating_add(1), messages as u64);
+            }
+        }
+    }
+}
+
+impl ReadingProgress for Messages<'_, '_> {
+    fn tell(&self, place: usize, messages: usize) {
+        MessageProgress::tell(self, place, messages);
+    }
 }
 
 /// A base folder of the system that was looked at, as a source of messages.
