@@ -1,13 +1,9 @@
 //! Base folders: which BASE is one, and its files.
-ghost use Rattle.std.specs.Prelude.{IfOk};
 
 use base_file::BaseFault;
-use base_folder::{
-    BaseReader, FolderReader, MessageSource, OpenError, ReadingProgress, log_end, read_folder,
-};
-use base_store::SipDigest;
-use cmd_input::{Progress, folder_fault, folder_path, output_fault, read_file};
-use cmd_status::{Fault, MessageProgress};
+use base_folder::{OpenError, log_end};
+use cmd_input::{folder_fault, folder_path, output_fault};
+use cmd_status::Fault;
 use disk_system::{RealDisk, Unknown, flush_path};
 use std::collections::hash_map::RandomState;
 use std::fs::DirEntry;
@@ -31,98 +27,6 @@ pub fn flush_name<'a>(rt: &HostRuntime, base: &'a str, messages: usize) -> Resul
     flush_path(rt.alloc(), rt, name).map_err(|fault| output_fault(fault, base))
 }
 
-/// Reports at which message a command is, if a progress line is given.
-#[derive(Clone, Copy, Drop)]
-pub struct Messages<'p, 'r> {
-    pub progress: Option<&'p Progress<'r>>,
-}
-
-impl MessageProgress for Messages<'_, '_> {
-    fn tell(&self, place: usize, messages: usize) {
-        if let Some(progress) = self.progress {
-            if progress.is_due() {
-                progress.tell_message((place as u64).saturating_add(1), messages as u64);
-            }
-        }
-    }
-}
-
-impl ReadingProgress for Messages<'_, '_> {
-    fn tell(&self, place: usize, messages: usize) {
-        MessageProgress::tell(self, place, messages);
-    }
-}
-
-/// A base folder of the system that was looked at, as a source of messages.
-pub type FolderMessages<'r> = FolderReader<RealDisk<&'r HostRuntime, Unknown>, SipDigest>;
-
-/// Looks at the base folder with this path, and reads each message from this number on. It changes nothing.
-pub fn open_folder_reader<'r, 'a>(
-    rt: &'r HostRuntime,
-    base: &'a str,
-    first: u64,
-    progress: Option<&Progress<'_>>,
-) -> Result<FolderMessages<'r>, Fault<'a>>
-    ensures { IfOk result (λ messages. (⟦<FolderReader<RealDisk<&'r HostRuntime, Unknown>, SipDigest> as MessageSource>⟧.state messages).is_ready) }
-{
-    let strange = is_strange(rt, base)?;
-    let path = folder_path(rt, base)?;
-    look_at(rt, base, path.as_str(), strange, first, progress)
-}
-
-fn look_at<'r, 'a>(
-    rt: &'r HostRuntime,
-    base: &'a str,
-    path: &str,
-    strange: bool,
-    first: u64,
-    progress: Option<&Progress<'_>>,
-) -> Result<FolderMessages<'r>, Fault<'a>>
-    ensures { IfOk result (λ messages. (⟦<FolderReader<RealDisk<&'r HostRuntime, Unknown>, SipDigest> as MessageSource>⟧.state messages).is_ready) }
-{
-    let disk = RealDisk::new(rt, Unknown);
-    let path = path.as_bytes();
-    match read_folder(
-        rt.alloc(),
-        disk,
-        path,
-        strange,
-        first,
-        &Messages { progress },
-    ) {
-        Ok(messages) => Ok(messages),
-        Err(why) => Err(why.fault(base)),
-    }
-}
-
-/// The base file with this path, as a source of messages. A hasher without a seed counts as a failed read.
-pub fn load_base<'a>(
-    rt: &HostRuntime,
-    base: &'a str,
-) -> Result<BaseReader<RandomState>, Fault<'a>> {
-    let hasher = RandomState::new(rt).map_err(|_| Fault::Base(BaseFault::Read))?;
-    let bytes = read_file(rt, base, usize::MAX)?;
-    BaseReader::read(rt.alloc(), &bytes, hasher)
-}
-
-/// Reads the base with this path: a file, or the messages of a folder.
-pub fn check_base<'a>(rt: &HostRuntime, base: &'a str) -> Result<(), Fault<'a>> {
-    if is_folder(rt, base) {
-        open_folder_reader(rt, base, 0, None)?;
-    } else {
-        read_file(rt, base, usize::MAX)?;
-    }
-    Ok(())
-}
-
-/// Why the messages of the base with this path were not read as a base file.
-pub fn messages_fault(fault: BaseFault, base: &str) -> Fault<'_> {
-    match fault {
-        BaseFault::Read => Fault::CannotUse(base),
-        fault => Fault::Base(fault),
-    }
-}
-
 /// Whether nothing was ever committed in the folder, and all its files can belong to a base folder.
 pub fn is_unused<'a>(rt: &HostRuntime, base: &'a str) -> Result<bool, Fault<'a>> {
     let strange = is_strange(rt, base)?;
@@ -135,9 +39,17 @@ pub fn is_unused<'a>(rt: &HostRuntime, base: &'a str) -> Result<bool, Fault<'a>>
     }
 }
 
-/// A key for digests, as two halves. If the system gives no seed, that is a failed read.
+/// The hasher of look-ups. If the system gives no seed, that is a failed read.
+pub fn hash_state<'a>(rt: &HostRuntime) -> Result<RandomState, Fault<'a>> {
+    match RandomState::new(rt) {
+        Ok(state) => Ok(state),
+        Err(_) => Err(Fault::Base(BaseFault::Read)),
+    }
+}
+
+/// A key for digests, as two halves.
 pub fn drawn_key<'a>(rt: &HostRuntime) -> Result<(u64, u64), Fault<'a>> {
-    let state = RandomState::new(rt).map_err(|_| Fault::Base(BaseFault::Read))?;
+    let state = hash_state(rt)?;
     Ok((half_of(&state, 1), half_of(&state, 2)))
 }
 

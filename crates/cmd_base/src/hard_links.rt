@@ -49,11 +49,11 @@ fn has_hard_links<'a>(rt: &HostRuntime, base: &'a str) -> Result<bool, Fault<'a>
 
 // A name that is no text does not belong to a base folder.
 fn is_linked_entry(entry: io::Result<DirEntry>) -> bool {
-    let Ok(entry) = entry else {
-        return false;
-    };
-    match entry.metadata() {
-        Ok(found) => has_second_path(&found),
+    match entry {
+        Ok(entry) => match entry.metadata() {
+            Ok(found) => has_second_path(&found),
+            Err(_) => false,
+        },
         Err(_) => false,
     }
 }
