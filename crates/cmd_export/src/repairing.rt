@@ -4,10 +4,8 @@ ghost use Rattle.std.specs.Prelude.{◌≡◌, None};
 
 use crate::resending::check_owner;
 use base_folder::MessageSource;
-use cmd_input::{
-    LinkLock, MAX_INPUT, folder_path, is_folder, load_base, open_folder_reader, output_fault,
-    read_given,
-};
+use cmd_base::{is_folder, open_base};
+use cmd_input::{LinkLock, MAX_INPUT, folder_path, output_fault, read_given};
 use cmd_repair::{KnownIds, SendFault, check_linked, push_nothing, read_ids, send_all};
 use cmd_status::{Fault, FileLock, Status, print_rest};
 use cmd_store::{push_counted, repair_name};
@@ -120,13 +118,7 @@ fn send_base<W: Sink, E: Sink>(
     out: &mut W,
     errors: &mut E,
 ) -> Status {
-    if is_folder(rt, words.place.base) {
-        return match open_folder_reader(rt, words.place.base, judged_from(repair.asked), None) {
-            Ok(mut messages) => send_messages(rt, words, repair, links, &mut messages, out, errors),
-            Err(fault) => fault.report(errors),
-        };
-    }
-    match load_base(rt, words.place.base) {
+    match open_base(rt, words.place.base, judged_from(repair.asked)) {
         Ok(mut messages) => send_messages(rt, words, repair, links, &mut messages, out, errors),
         Err(fault) => fault.report(errors),
     }

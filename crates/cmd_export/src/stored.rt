@@ -3,16 +3,15 @@
 
 ghost use Rattle.std.specs.Prelude.{◌≢◌, IfErr};
 
+use crate::bases::first_number;
 use base_folder::MessageSource;
-use cmd_input::{
-    folder_fault, folder_path, is_folder, load_base, locked_folder, open_folder_reader,
-    output_fault, read_file,
-};
+use cmd_base::open_base;
+use cmd_input::{folder_fault, folder_path, locked_folder, output_fault, read_file};
 use cmd_numbered::{
     ExportError, Exported, LastFile, MessageFile, MessageFolder, export_files, is_left,
     stored_number, tell_exported,
 };
-use cmd_status::{Fault, Status, ended, parse_number};
+use cmd_status::{Fault, Status, ended};
 use cmd_words::ExportStoredWords;
 use disk_io::Sink;
 use disk_system::{
@@ -118,20 +117,11 @@ fn export_into<'a, E: Sink>(
     words: &ExportStoredWords<'a>,
     errors: &mut E,
 ) -> Result<(File, Exported<'a>), Fault<'a>> {
-    let first = match words.from {
-        Some(word) => parse_number(word)?,
-        None => 0,
-    };
+    let first = first_number(words.from)?;
     let folder = words.folder;
     let locked = locked_folder(rt, folder);
     let mut files = FolderFiles { rt, folder, errors };
-    if is_folder(rt, words.base) {
-        let mut messages = open_folder_reader(rt, words.base, 0, None)?;
-        let locked = locked?;
-        let exported = export_messages(words, first, &mut messages, &mut files)?;
-        return Ok((locked, exported));
-    }
-    let mut messages = load_base(rt, words.base)?;
+    let mut messages = open_base(rt, words.base, 0)?;
     let locked = locked?;
     let exported = export_messages(words, first, &mut messages, &mut files)?;
     Ok((locked, exported))

@@ -1,8 +1,6 @@
 //! The packet files of `toss`: their names, and the reader of those that are too large to be held in memory.
 
-use crate::inputs::input_fault;
-use crate::paths::PathName;
-use crate::progress::{Progress, percentage};
+use cmd_input::{PathName, Progress, input_fault};
 use cmd_status::{Fault, StreamPackets};
 use disk_io::{Buffered, Watched};
 use disk_system::open_regular;
@@ -100,4 +98,9 @@ impl PacketInput<'_> {
             Err(_) => 0,
         }
     }
+}
+
+// The percentage of `all` that `some` is.
+fn percentage(some: u64, all: u64) -> u128 {
+    (u128::from(some) * WHOLE / u128::from(all.max(1))).min(WHOLE)
 }

@@ -112,42 +112,25 @@ pub(crate) fn packets_in(
     folder: &str,
     own: &str,
 ) -> Result<Vec<StagedPacket>, DiskError> {
-    let mut found = Vec::new(rt.alloc());
-    push_packets(rt, folder, own, &mut found)?;
-    Ok(found)
-}
-
-fn push_packets(
-    rt: &HostRuntime,
-    folder: &str,
-    own: &str,
-    found: &mut Vec<StagedPacket>,
-) -> Result<(), DiskError> {
     let ending = format!(in rt.alloc(); ".pkt.~{own}~.new")?;
     match fs::read_dir(rt, folder) {
-        Ok(listing) => push_listing(rt, listing, ending.as_str(), found),
-        Err(error) => unless_missing(&error),
+        Ok(listing) => packets_listed(rt, listing, ending.as_str()),
+        // A missing folder has no packets.
+        Err(error) if error.kind() == ErrorKind::NotFound => Ok(Vec::new(rt.alloc())),
+        Err(error) => Err(unlisted(&error)),
     }
 }
 
-fn push_listing(
+fn packets_listed(
     rt: &HostRuntime,
     listing: ReadDir,
     ending: &str,
-    found: &mut Vec<StagedPacket>,
-) -> Result<(), DiskError> {
+) -> Result<Vec<StagedPacket>, DiskError> {
+    let mut found = Vec::new(rt.alloc());
     for entry in listing {
-        push_entry(rt, entry, ending, found)?;
+        push_entry(rt, entry, ending, &mut found)?;
     }
-    Ok(())
-}
-
-// A missing folder has no packets.
-fn unless_missing(error: &io::Error) -> Result<(), DiskError> {
-    match error.kind() {
-        ErrorKind::NotFound => Ok(()),
-        _ => Err(unlisted(error)),
-    }
+    Ok(found)
 }
 
 fn push_entry(

@@ -3,7 +3,8 @@
 //! can finish them.
 
 use crate::left_files::packets_in;
-use cmd_input::{is_folder, output_fault};
+use cmd_base::is_folder;
+use cmd_input::output_fault;
 use cmd_status::Fault;
 use disk_io::{DiskError, Watched, send};
 use disk_system::{OutputFault, flush_folder, make_new, read_file};

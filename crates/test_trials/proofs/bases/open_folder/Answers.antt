@@ -2,7 +2,7 @@ use Rattle.std.proofs.Common.{◌∙◌, List, ℕ, ap, sym, subst}
 use Rattle.disk_io.{specs.Disk.bytes_in, proofs.Moments.nothing_twice}
 use Rattle.base_log.specs.{AtRest.IsAtRest, Names.log_of, Opening.AreAlone, Reading.IsLogIn, Standing.BaseBytes, Standing.Represents, Standing.base_at}
 use Rattle.base_log.proofs.{Empty.represented_quiet, Quiet.base_quiet}
-use Rattle.test_calls.proofs.bases.open_folder.Goals as goal
+use Rattle.test_trials.proofs.bases.open_folder.Goals as goal
 
 pub judge-requires-clause-log : goal.judge-requires-clause-log
 judge-requires-clause-log g c honest = c.in_ok-log.ensures.log honest ∙ ap bytes_in (sym (c.read_log.ensures.quiet.seen (log_of c.args.folder.now)))

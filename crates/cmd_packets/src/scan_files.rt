@@ -2,7 +2,7 @@
 //! except one that a stopped run left. The base is replaced as in `base_files`. The path of a failed call is noted
 //! for the report. If the folder gives a packet no second path, that is the folder.
 
-use crate::base_files::{BaseFiles, system_error, target_staging};
+use cmd_base::{BaseFiles, system_error, target_staging};
 use cmd_input::Progress;
 use disk_system::{check_left, make_new};
 use std::alloc::Allocator;
@@ -114,17 +114,13 @@ impl<'p, 'r> ScanFiles<'p, 'r> {
     // Makes the staging file of a packet. If memory for the path lacks, that file stays until the next scan.
     fn make_packet(&self, path: &str) -> io::Result<File> {
         let file = make_new(self.rt, path)?;
-        self.note_made(path);
-        Ok(file)
-    }
-
-    fn note_made(&self, path: &str) {
         if let Some(mut made) = self.made.take() {
             if let Ok(kept) = String::from_str(self.rt.alloc(), path) {
                 let _ = made.push(kept);
             }
             self.made.set(Some(made));
         }
+        Ok(file)
     }
 
     fn note<T: Drop>(&self, path: &str, answer: io::Result<T>) -> io::Result<T> {
@@ -206,16 +202,11 @@ fn last_number(name: &str) -> Option<u16> {
     number.parse::<u16>().ok()
 }
 
-// The names of the two systems of a staged packet: the one that scans, and the other.
-fn systems_of(path: &str) -> Option<(&str, &str)> {
+// The bytes by which a staged packet is recognized: the nodes of the system that scans and of the other, which it has in
+// it.
+fn nodes_of(path: &str) -> Option<[u8; 4]> {
     let (packet, own) = path.strip_suffix("~.new")?.rsplit_once(".~")?;
     let (to, _) = packet.strip_suffix(PACKET)?.rsplit_once('.')?;
-    Some((own, to))
-}
-
-// The bytes by which a staged packet is recognized: the nodes of the two systems, which it has in it.
-fn nodes_of(path: &str) -> Option<[u8; 4]> {
-    let (own, to) = systems_of(path)?;
     let from = last_number(own)?.to_le_bytes();
     let to = last_number(to)?.to_le_bytes();
     Some([from[0], from[1], to[0], to[1]])

@@ -5,7 +5,7 @@ use disk_io::{Buffered, Source, Watched};
 use disk_system::open_regular;
 use echo_filed::Key;
 use echo_packet::{Limits, Packed, PacketReader};
-use echo_text::{FrontView, view_front};
+use echo_text::view_front;
 use std::alloc::AllocError;
 use std::fs;
 use std::fs::File;
@@ -118,17 +118,8 @@ fn push_key(rt: &HostRuntime, message: &Packed, keys: &mut Vec<Key>) -> Result<(
     let Ok(front) = view_front(rt.alloc(), message.text()) else {
         return Ok(());
     };
-    push_front(rt, message, &front, keys)
-}
-
-fn push_front(
-    rt: &HostRuntime,
-    message: &Packed,
-    front: &FrontView<'_>,
-    keys: &mut Vec<Key>,
-) -> Result<(), AllocError> {
     let (date, to_name) = (message.date(), message.to_name());
     let (from_name, subject) = (message.from_name(), message.subject());
-    keys.push(Key::of_front(rt.alloc(), front, date, to_name, from_name, subject)?)?;
+    keys.push(Key::of_front(rt.alloc(), &front, date, to_name, from_name, subject)?)?;
     Ok(())
 }
