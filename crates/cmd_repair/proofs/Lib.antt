@@ -1,7 +1,6 @@
 pub mod Searching
 pub mod Cutting
 pub mod Readings
-pub mod IdWords
 pub mod Unescaped
 pub mod RightLists
 pub mod Gatherings

@@ -5,7 +5,7 @@ ghost use Rattle.echo_addr.specs.declared.address.Address.{Address};
 ghost use Rattle.echo_links.specs.Links.{LinkFile};
 ghost use Rattle.echo_toss.specs.declared.counting.CountedPacket.{CountedPacket};
 ghost use Rattle.model_steps.specs.declared.stamp.Stamp.{Stamp};
-ghost use Rattle.cmd_repair.specs.{IdList.{IsIdList, IsPrintedList, wrong_line}, Ids.IsWordOfId, Words.is_id_word, declared.reading.Stage.TheVariants.Start};
+ghost use Rattle.cmd_repair.specs.{IdList.{IsIdList, IsPrintedList, ListsIds, wrong_line}, Ids.{IsWordOfId, is_id_word}, declared.reading.Stage.TheVariants.Start};
 ghost use Rattle.cmd_repair.specs.{Repair.SendsPacket, Rest.HaveByteIds, Rest.SendsRest};
 
 /// A list has no wrong line exactly if its lines are those of an area and its ids, in any order and perhaps twice.
@@ -23,6 +23,6 @@ pub fn repairs_send_the_rest()
     ensures all { (file : LinkFile) (stamp : Stamp) (area : List ℕ) (to : Address) (base : Base) (old new : Option (List ℕ)) (counted : CountedPacket)
         → SendsPacket file stamp area to 0 None base old new counted → SendsRest file stamp area to [] base old new }
     ensures listed { (file : LinkFile) (stamp : Stamp) (area : List ℕ) (to : Address) (base : Base) (old new : Option (List ℕ)) (counted : CountedPacket)
-        (list : List ℕ) (words : List (List ℕ)) (is : IsIdList area list words) → HaveByteIds base.messages
-        → SendsPacket file stamp area to 0 (Some words) base old new counted → SendsRest file stamp area to is.right.ids base old new }
+        (list : List ℕ) (words ids : List (List ℕ)) → ListsIds area list ids → IsIdList area list words → HaveByteIds base.messages
+        → SendsPacket file stamp area to 0 (Some words) base old new counted → SendsRest file stamp area to ids base old new }
 {}
