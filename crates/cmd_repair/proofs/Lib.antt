@@ -8,3 +8,5 @@ pub mod Printings
 pub mod Listed
 pub mod Sendings
 pub mod Rests
+pub mod Printed
+pub mod AreaIds
