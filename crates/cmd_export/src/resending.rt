@@ -7,7 +7,7 @@ use crate::repairing::run_repair;
 use base_folder::{judge_owner, log_end};
 use cmd_base::{is_folder, is_strange, open_base};
 use cmd_input::{LinkLock, folder_path, named_stamp, output_fault, text_path};
-use cmd_numbered::resend_streamed;
+use cmd_numbered::resend;
 use cmd_repair::check_linked;
 use cmd_status::{Fault, FileLock, Status, parse_address, print_rest};
 use cmd_store::{push_packet, resent_name};
@@ -76,7 +76,7 @@ fn packet_of<'a, D: Disk, L: FileLock>(
     check_linked(&links, &area, asked.to)?;
     check_owner(rt, disk, words.place.base, links.system())?;
     let mut messages = open_base(rt, words.place.base, 0)?;
-    resend_streamed(rt.alloc(), asked, &links, words.place.base, &mut messages)
+    resend(rt.alloc(), asked, &links, words.place.base, &mut messages)
 }
 
 /// A fault, where the base is a folder of another system.
