@@ -4,9 +4,7 @@ use cmd_base::open_base;
 use cmd_input::Progress;
 use cmd_print::ListForm;
 use cmd_repair::list_ids;
-use cmd_show::{
-    ExportQuery, ListQuery, export_messages, list_areas_streamed, list_messages, tell_lost,
-};
+use cmd_show::{ExportQuery, ListQuery, export, list, list_areas, tell_lost};
 use cmd_status::{Fault, Status, parse_number};
 use cmd_words::{ExportWords, ListWords};
 use disk_io::Sink;
@@ -49,7 +47,7 @@ fn list_opened<'a, M: MessageSource, W: Sink>(
         return list_ids(rt.alloc(), area.unwrap_or(&[]), words.base, messages, out);
     }
     if words.areas {
-        return list_areas_streamed(rt.alloc(), words.base, messages, out);
+        return list_areas(rt.alloc(), words.base, messages, out);
     }
     let form = if words.short {
         ListForm::Short
@@ -57,7 +55,7 @@ fn list_opened<'a, M: MessageSource, W: Sink>(
         ListForm::Whole
     };
     let asked = ListQuery { form, area, first };
-    list_messages(rt.alloc(), &asked, words.base, messages, out)
+    list(rt.alloc(), &asked, words.base, messages, out)
 }
 
 // `export [--area TAG] [--from I] [--purged] [--mbox | --json] BASE`, judged as `list` is.
@@ -77,7 +75,7 @@ fn export_given<'a, W: Sink>(
         purged: words.purged,
     };
     let mut messages = open_base(rt, words.base, asked.first)?;
-    export_messages(rt.alloc(), &asked, words.base, &mut messages, out)
+    export(rt.alloc(), &asked, words.base, &mut messages, out)
 }
 
 /// `export`, and on standard error how many characters were lost.

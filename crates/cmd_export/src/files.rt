@@ -3,11 +3,12 @@ ghost use Rattle.std.specs.Prelude.{IfOk};
 use base_folder::{BaseReader, FolderReader, MessageSource};
 use base_store::SipDigest;
 use cmd_base::{BaseMessages, EitherBase, Messages, hash_state, is_folder, open_folder};
-use cmd_input::{Progress, folder_fault, input_fault};
+use cmd_input::{Progress, folder_fault, folder_path, input_fault};
 use cmd_status::Fault;
 use disk_io::{Buffered, Watched};
 use disk_system::{RealDisk, Unknown, read_whole};
 use station::Followed;
+use std::alloc::AllocError;
 use std::collections::hash_map::RandomState;
 use std::fs::File;
 use std::{fs, io};
@@ -61,4 +62,11 @@ fn read_reported<'a>(
     };
     bytes.shrink_to_fit();
     Ok(bytes)
+}
+
+/// The path of the file with this name in a folder.
+pub(crate) fn file_path(rt: &HostRuntime, folder: &str, name: &str) -> Result<String, AllocError> {
+    let mut path = folder_path(rt, folder)?;
+    path.push_str(name)?;
+    Ok(path)
 }

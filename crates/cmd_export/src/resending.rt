@@ -2,11 +2,12 @@
 ghost use Rattle.std.specs.Prelude.{◌≡◌, None};
 
 use crate::bases::first_number;
+use crate::files::file_path;
 use crate::repairing::run_repair;
 use base_folder::{judge_owner, log_end};
 use cmd_base::{is_folder, is_strange, open_base};
-use cmd_input::{LinkLock, folder_path, named_stamp, output_fault};
-use cmd_numbered::resend_streamed;
+use cmd_input::{LinkLock, folder_path, named_stamp, output_fault, text_path};
+use cmd_numbered::resend;
 use cmd_repair::check_linked;
 use cmd_status::{Fault, FileLock, Status, parse_address, print_rest};
 use cmd_store::{push_packet, resent_name};
@@ -20,7 +21,6 @@ use echo_toss::Resend;
 use model_steps::Packet;
 use station::lock_and_read_links;
 use std::alloc::AllocError;
-use std::str;
 
 /// How many bytes show that a file is the packet that is to be written: the nodes of its two systems.
 const PACKET_KNOWN_BY: usize = 4;
@@ -76,7 +76,7 @@ fn packet_of<'a, D: Disk, L: FileLock>(
     check_linked(&links, &area, asked.to)?;
     check_owner(rt, disk, words.place.base, links.system())?;
     let mut messages = open_base(rt, words.place.base, 0)?;
-    resend_streamed(rt.alloc(), asked, &links, words.place.base, &mut messages)
+    resend(rt.alloc(), asked, &links, words.place.base, &mut messages)
 }
 
 /// A fault, where the base is a folder of another system.
@@ -149,10 +149,8 @@ fn put_packet<E: Sink>(
 }
 
 fn path_of(rt: &HostRuntime, folder: &str, asked: Resend<'_>) -> Result<String, AllocError> {
-    let mut path = folder_path(rt, folder)?;
     let name = resent_name(rt.alloc(), asked.to, asked.first)?;
-    path.push_str(str::from_utf8(&name).unwrap_or(""))?;
-    Ok(path)
+    file_path(rt, folder, text_path(&name))
 }
 
 // Writes it under the staging name of its system, and gives it its own.

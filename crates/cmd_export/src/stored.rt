@@ -4,9 +4,10 @@
 ghost use Rattle.std.specs.Prelude.{◌≢◌, IfErr};
 
 use crate::bases::first_number;
+use crate::files::file_path;
 use base_folder::MessageSource;
 use cmd_base::open_base;
-use cmd_input::{folder_fault, folder_path, locked_folder, output_fault, read_file};
+use cmd_input::{folder_fault, locked_folder, output_fault, read_file, text_path};
 use cmd_numbered::{
     ExportError, Exported, LastFile, MessageFile, MessageFolder, export_files, is_left,
     stored_number, tell_exported,
@@ -17,9 +18,8 @@ use disk_io::Sink;
 use disk_system::{
     BY_UMASK, NewFile, OutputFault, create_file, flush_folder, parent_path, remove_left,
 };
-use std::alloc::AllocError;
 use std::fs::File;
-use std::{fs, io, str};
+use std::{fs, io};
 
 /// The word in the staging path of a message where other files have the address of a system.
 const OWN: &str = "msg";
@@ -50,8 +50,7 @@ impl<E: Sink> MessageFolder for FolderFiles<'_, '_, E> {
     ghost refuses = { λ before now status. status ≢ Good };
 
     fn make(&mut self, file: &MessageFile) -> Result<(), Status> {
-        let name = str::from_utf8(file.name.as_slice()).unwrap_or("");
-        match file_path(self.rt, self.folder, name) {
+        match file_path(self.rt, self.folder, text_path(file.name.as_slice())) {
             Ok(path) => self.make_at(path.as_str(), file),
             Err(_) => Err(self.refuse(OutputFault::Memory, "")),
         }
@@ -188,10 +187,4 @@ fn last_name<'a>(rt: &HostRuntime, folder: &'a str) -> Result<Option<Last>, Faul
         }
     }
     Ok(last)
-}
-
-fn file_path(rt: &HostRuntime, folder: &str, name: &str) -> Result<String, AllocError> {
-    let mut path = folder_path(rt, folder)?;
-    path.push_str(name)?;
-    Ok(path)
 }

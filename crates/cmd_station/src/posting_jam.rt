@@ -5,7 +5,7 @@ use crate::changing::{BaseCommand, PostEnd, find_and_post};
 use cmd_base::open_base;
 use cmd_input::{LinkLock, named_serial, named_stamp};
 use cmd_jam::Outbox;
-use cmd_numbered::{PostedWords, is_posted_streamed, own_serial, tell_refused};
+use cmd_numbered::{PostedWords, is_posted, own_serial, tell_refused};
 use cmd_status::{Fault, FileLock, Status};
 use cmd_store::{NewMessage, Post};
 use cmd_words::{Place, PostJamWords};
@@ -192,7 +192,7 @@ impl<'a> JamPoster<'a> {
         };
         let base = self.place.base;
         let mut messages = open_base(self.rt, base, 0)?;
-        is_posted_streamed(self.rt.alloc(), words, base, &mut messages)
+        is_posted(self.rt.alloc(), words, base, &mut messages)
     }
 }
 

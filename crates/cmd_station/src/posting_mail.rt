@@ -5,7 +5,7 @@ ghost use Rattle.std.specs.Prelude.{◌≡◌, None};
 use crate::changing::{BaseCommand, find_and_change};
 use cmd_base::open_base;
 use cmd_input::{LinkLock, MAX_TEXT_FILE, named_serial, named_stamp, read_standard_input};
-use cmd_numbered::{Answered, find_answered_streamed};
+use cmd_numbered::{Answered, find_answered};
 use cmd_status::{Fault, FileLock, Status};
 use cmd_store::{LetterFault, MailDefaults, MailWords, PostMail};
 use cmd_words::PostMailWords;
@@ -106,7 +106,7 @@ fn message_of_id<'a>(
         return Ok(None);
     }
     let mut messages = open_base(rt, base, 0)?;
-    find_answered_streamed(rt.alloc(), id, base, &mut messages)
+    find_answered(rt.alloc(), id, base, &mut messages)
 }
 
 // The id of the message that the mail answers, if no area is named or the charset of that message is asked for. A mail

@@ -2,7 +2,7 @@ use Rattle.std.proofs.Common.{◌≡◌, ◌≤◌, ℕ}
 use Rattle.base_file.specs.Base.{Base}
 use Rattle.base_folder.specs.Source.{AreLegibleTo}
 use Rattle.cmd_numbered.specs.Finding.{is_found_as, last_with}
-use Rattle.cmd_numbered.proofs.finding.is_posted_streamed.Given as goal
+use Rattle.cmd_numbered.proofs.finding.is_posted.Given as goal
 
 abbrev pub invariant-messages : goal.invariant-messages
 invariant-messages g l = record {

@@ -2,7 +2,7 @@ use Rattle.std.{proofs.Common.{◌≡◌, ◌≤◌, ℕ}, specs.Option.option_m
 use Rattle.base_file.specs.Base.{Base}
 use Rattle.base_folder.specs.Source.{AreLegibleTo}
 use Rattle.cmd_numbered.specs.Finding.{answered_as, last_with}
-use Rattle.cmd_numbered.proofs.finding.find_answered_streamed.Given as goal
+use Rattle.cmd_numbered.proofs.finding.find_answered.Given as goal
 
 abbrev pub invariant-messages : goal.invariant-messages
 invariant-messages g l = record {
