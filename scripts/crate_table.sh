@@ -8,10 +8,10 @@ cd "$(dirname "$0")/.."
 # A line for each row: the group, the crates, and their purpose. A row without a group belongs to the group of the row
 # before.
 rows='
-tests      | test_calls test_trials |
+tests      | test_trials |
 program    | echonet cmd_words | picks the command; the command line
            | cmd_station cmd_net cmd_export cmd_notes | the commands on the files of the system
-           | cmd_jam cmd_base cmd_input | JAM bases; bases opened; files, locks, clock, progress
+           | cmd_jam cmd_packets cmd_base cmd_input | JAM bases; packets; bases; files, locks, clock, progress
 laws       | law_stations | nets of stations, crashes, sequences on disks
 stations   | station_scan | a scan with its packets
            | station_bases | two kinds of base

@@ -6,9 +6,9 @@ use Rattle.echo_filed.specs.{Filed.Filed, declared.stored.Version.TheVariants.Se
 use Rattle.base_file.specs.Base.{Base}
 use Rattle.base_log.specs.{Names.keys_of, Standing.BaseBytes, Standing.base_at}
 use Rattle.base_store.{specs.Keys.digested, proofs.Recorded.recorded_base_each}
-use Rattle.base_folder_store.specs.{Held.HoldsBase, Held.digest_by, Opened.held_by, Opened.path_of, Vouched.HasDigest, Vouched.IsLookedAt, Vouched.IsThere, Vouched.IsVouched, declared.folder.Folder.Folder}
+use Rattle.base_folder_store.specs.{Ahead.AreParts, Ahead.HasParts, Held.HoldsBase, Held.digest_by, Opened.held_by, Opened.path_of, Vouched.HasDigest, Vouched.IsLookedAt, Vouched.IsThere, Vouched.IsVouched, declared.folder.Folder.Folder, declared.read_ahead.Buffers.Buffers}
 use Rattle.base_folder_store.proofs.{Bases.recorded_where, Legible.held_quiet, Legible.keys_all, Legible.legible_quiet, Waits.written_held}
-use Rattle.base_folder.specs.Source.{AreLegibleTo, LooksAt, SeesBase, SourceState}
+use Rattle.base_folder.specs.Source.{AreLegibleTo, IsReadable, LooksAt, SeesBase, SourceState}
 
 pub record ReadAt (keyed : ℕ → ℕ → List ℕ → ℕ) (bytes : BaseBytes) (base : Base) (i : ℕ) : Type 0 where
   pub s : Stored
@@ -43,6 +43,12 @@ looked_sees keyed d f base looked honest holds =
 
 pub looked_quiet : (d e : DiskState) (f : Folder) → ChangesNothing d e → IsLookedAt d f → IsLookedAt e f
 looked_quiet d e f quiet looked = grind (arith, legible_quiet)
+
+pub parts_quiet : (d e : DiskState) (f : Folder) (b : Buffers) → held_by e f ≡ held_by d f → HasParts d f b → HasParts e f b
+parts_quiet d e f b same are = subst (λ (held : BaseBytes). AreParts held.messages held.keys b) (sym same) are
+
+pub readable_quiet : (d e : DiskState) (f : Folder) (old new : Buffers) → ChangesNothing d e → Honestly e (HasParts d f new) → IsReadable d f old → IsReadable e f new
+readable_quiet d e f old new quiet parts was = record { looked = looked_quiet d e f quiet was.looked; parts = λ honest. parts_quiet d e f new (held_quiet d e f quiet) (parts honest) }
 
 pub sees_quiet : (keyed : ℕ → ℕ → List ℕ → ℕ) (d e : DiskState) (f : Folder) (base : Base) → ChangesNothing d e → SeesBase keyed d f base → SeesBase keyed e f base
 sees_quiet keyed d e f base quiet sees = record { holds = subst (λ (b : BaseBytes). HoldsBase keyed b base) (sym (held_quiet d e f quiet)) sees.holds; count = sees.count }

@@ -1,9 +1,9 @@
 -- A source of messages that are read one by one.
 use Rattle.std.specs.Prelude.{◌≡◌, ◌<◌, ◌/◌, ℕ, List, length, OnOk, Option, Result}
-use Rattle.disk_io.specs.Disk.{DiskState}
+use Rattle.disk_io.specs.Disk.{DiskState, Honestly}
 use Rattle.base_file.specs.Base.{Base}
 use Rattle.echo_filed.specs.Filed.{Filed}
-use Rattle.base_folder_store.specs.{Held.HoldsBase, Opened.held_by, Vouched.IsLookedAt, Vouched.IsVouched, declared.folder.Folder.Folder}
+use Rattle.base_folder_store.specs.{Ahead.HasParts, Held.HoldsBase, Opened.held_by, Vouched.IsLookedAt, Vouched.IsVouched, declared.folder.Folder.Folder, declared.read_ahead.Buffers.Buffers}
 
 -- A source: whether its answers were honest and it may be read, the number of messages, their base, the messages that
 -- are no damage, the current message, and the failures of the device.
@@ -42,10 +42,15 @@ pub record SeesBase (keyed : ℕ → ℕ → List ℕ → ℕ) (disk : DiskState
   pub holds : HoldsBase keyed (held_by disk folder) base
   pub count : folder.keys / 16 ≡ length base.messages
 
-abbrev pub folder_source : DiskState → ℕ → (ℕ → ℕ → List ℕ → ℕ) → Folder → Option Filed → SourceState
-folder_source disk failures keyed folder message = record {
+-- The folder is only read, and the buffers have parts of its files.
+pub record IsReadable (disk : DiskState) (folder : Folder) (buffers : Buffers) : Type 0 where
+  pub looked : IsLookedAt disk folder
+  pub parts : Honestly disk (HasParts disk folder buffers)
+
+abbrev pub folder_source : DiskState → ℕ → (ℕ → ℕ → List ℕ → ℕ) → Folder → Buffers → Option Filed → SourceState
+folder_source disk failures keyed folder buffers message = record {
   is_honest = disk.is_honest;
-  is_ready = IsLookedAt disk folder;
+  is_ready = IsReadable disk folder buffers;
   count = folder.keys / 16;
   holds = λ base. SeesBase keyed disk folder base;
   legible = λ i. IsVouched keyed (held_by disk folder) i;

@@ -8,8 +8,8 @@ use crate::looking::look;
 use crate::open_error::OpenError;
 use crate::reading::ReadingProgress;
 use crate::source::MessageSource;
-use base_file::{Base, MessageRoom};
-use base_folder_store::Folder;
+use base_file::Base;
+use base_folder_store::{Buffers, Folder};
 use base_store::{Digest, StoreError};
 use cmd_status::Fault;
 use disk_io::Disk;
@@ -79,7 +79,7 @@ pub struct FolderReader<D: Disk, H: Digest> {
     disk: D,
     folder: Folder,
     message: Option<Filed>,
-    room: MessageRoom,
+    buffers: Buffers,
     digests: PhantomData<H>,
 }
 
@@ -97,7 +97,7 @@ impl<D: Disk, H: Digest> FolderReader<D, H> {
             disk,
             folder,
             message: None,
-            room: MessageRoom::new(alloc),
+            buffers: Buffers::new(alloc),
             digests: PhantomData,
         }
     }
@@ -131,7 +131,7 @@ pub fn read_folder<D: Disk + Drop, H: Digest, P: ReadingProgress>(
 impl<D: Disk, H: Digest> MessageSource for FolderReader<D, H> {
     ghost use Rattle.base_folder.specs.Source.{folder_source};
 
-    ghost state = { λ r. folder_source (D.state r.disk) (D.failures r.disk) H.keyed r.folder r.message };
+    ghost state = { λ r. folder_source (D.state r.disk) (D.failures r.disk) H.keyed r.folder r.buffers r.message };
 
     fn count(&self) -> usize {
         self.folder.count()
@@ -143,10 +143,10 @@ impl<D: Disk, H: Digest> MessageSource for FolderReader<D, H> {
 
     fn fetch(&mut self, place: usize) -> Result<(), StoreError> {
         let gone = self.message.take();
-        self.room.take_back(gone);
+        self.buffers.room.take_back(gone);
         let message = self
             .folder
-            .read_vouched::<D, H>(self.alloc, &mut self.disk, &mut self.room, place)?;
+            .read_vouched::<D, H>(self.alloc, &mut self.disk, &mut self.buffers, place)?;
         self.message = Some(message);
         Ok(())
     }

@@ -1,12 +1,12 @@
 //! The messages of a base folder that is looked at, read one by one.
 ghost use Rattle.std.specs.Prelude.{◌≡◌, ◌≤◌, ◌<◌, ◌/◌, IfErr, OnOk};
 ghost use Rattle.disk_io.specs.{Disk.Honestly, Runs.ChangesNothing};
-ghost use Rattle.base_folder_store.specs.{Opened.held_by, Vouched.IsLookedAt, Vouched.IsVouched};
+ghost use Rattle.base_folder_store.specs.{Ahead.HasParts, Opened.held_by, Vouched.IsLookedAt, Vouched.IsVouched};
 ghost use Rattle.base_folder.specs.{Looked.AreVouched, Looked.IsUnvouched, OpenError.HasUnreadCause, OpenError.unread_message};
 
 use crate::open_error::OpenError;
-use base_file::{BaseFault, MessageRoom};
-use base_folder_store::Folder;
+use base_file::BaseFault;
+use base_folder_store::{Buffers, Folder};
 use base_store::{Digest, StoreError};
 use disk_io::Disk;
 use std::alloc::Global;
@@ -47,10 +47,10 @@ pub(crate) fn judge_messages<D: Disk, H: Digest, P: ReadingProgress>(
     ensures quiet { ChangesNothing (D.state disk.old) (D.state disk.new) }
     ensures cause { HasUnreadCause (D.failures disk.old) (D.failures disk.new) result }
 {
-    let mut room = MessageRoom::new(alloc);
+    let mut buffers = Buffers::new(alloc);
     let count = folder.count();
     'messages: for i in start_number(first, count)..count {
-        judge_message::<D, H>(alloc, disk, folder, &mut room, i)?;
+        judge_message::<D, H>(alloc, disk, folder, &mut buffers, i)?;
         progress.tell(i, count);
     }
     Ok(())
@@ -60,19 +60,21 @@ fn judge_message<D: Disk, H: Digest>(
     alloc: Global,
     disk: &mut D,
     folder: &Folder,
-    room: &mut MessageRoom,
+    buffers: &mut Buffers,
     i: usize,
 ) -> Result<(), OpenError>
     requires looked { IsLookedAt (D.state disk.old) folder.now }
+    requires parts { Honestly (D.state disk.old) (HasParts (D.state disk.old) folder.now buffers.old) }
     requires within { i < folder.now.keys / 16 }
     ensures vouched { Honestly (D.state disk.new) (OnOk result (IsVouched H.keyed (held_by (D.state disk.old) folder.now) i)) }
     ensures damaged { Honestly (D.state disk.new) (IfErr result (IsUnvouched H.keyed (held_by (D.state disk.old) folder.now))) }
+    ensures parts { Honestly (D.state disk.new) (HasParts (D.state disk.old) folder.now buffers.new) }
     ensures quiet { ChangesNothing (D.state disk.old) (D.state disk.new) }
     ensures cause { HasUnreadCause (D.failures disk.old) (D.failures disk.new) result }
 {
-    match folder.read_vouched::<D, H>(alloc, disk, room, i) {
+    match folder.read_vouched::<D, H>(alloc, disk, buffers, i) {
         Ok(message) => {
-            room.take_back(Some(message));
+            buffers.room.take_back(Some(message));
             Ok(())
         }
         Err(error) => Err(unread_by(error, i)),

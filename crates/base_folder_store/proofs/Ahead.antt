@@ -1,7 +1,6 @@
 -- Parts of files that were read ahead.
-use Rattle.std.proofs.Common.{◌≡◌, ◌≤◌, ◌+◌, ◌-◌, ◌++◌, ℕ, List, [], length, take, drop, sym, ap, subst, ◌∙◌, arith, append_assoc, length-append, length-drop}
-use Rattle.std.proofs.lemmas.List.{append-nil, drop-append-le, drop-drop, drop-take, length-take-le, take-append-drop, take-append-le, take-take}
-use Rattle.disk_io.specs.Disk.{DiskState, bytes_in}
+use Rattle.std.proofs.Common.{◌≡◌, ◌≤◌, ◌+◌, ◌-◌, ◌++◌, ℕ, List, [], length, take, drop, sym, ap, ◌∙◌, arith, append_assoc, length-append, length-drop}
+use Rattle.std.proofs.lemmas.List.{drop-append-le, drop-drop, drop-take, length-take-le, take-append-drop, take-append-le}
 use Rattle.base_folder_store.specs.{Ahead.Covers, Ahead.IsPartOf, declared.read_ahead.ReadAhead.ReadAhead}
 
 pub part_grows : (bytes more : List ℕ) (ahead : ReadAhead) → IsPartOf bytes ahead → IsPartOf (bytes ++ more) ahead
@@ -11,18 +10,14 @@ part_grows bytes more ahead is = record {
   behind = drop-append-le ahead.from bytes more is.within ∙ ap (λ (l : List ℕ). l ++ more) is.behind ∙ append_assoc ahead.bytes.items is.rest more;
 }
 
-pub part_read : (file more : List ℕ) (ahead : ReadAhead) (first to : ℕ) → ahead.from ≤ to → to ≤ first → first ≤ length file → ahead.bytes.items ≡ drop ahead.from (take to file)
-    → IsPartOf (take first file ++ more) ahead
-part_read file more ahead first to order within long is =
-    let front = take first file in
-    let same : take to front ≡ take to file = take-take to first file within in
-    let count : length (take to front) ≡ to = length-take-le to front (omega (arith, length-take-le first file long, within)) in
-    let here : IsPartOf (take to front) ahead = record {
-      rest = [];
-      within = omega (arith, count, order);
-      behind = ap (λ (l : List ℕ). drop ahead.from l) same ∙ sym is ∙ sym (append-nil ahead.bytes.items);
-    } in
-    part_grows front more ahead (subst (λ (l : List ℕ). IsPartOf l ahead) (take-append-drop to front) (part_grows (take to front) (drop to front) ahead here))
+pub part_read : (all : List ℕ) (ahead : ReadAhead) (to : ℕ) → ahead.from ≤ to → to ≤ length all → ahead.bytes.items ≡ drop ahead.from (take to all) → IsPartOf all ahead
+part_read all ahead to order within is = record {
+  rest = drop to all;
+  within = omega (arith, order, within);
+  behind = ap (λ (l : List ℕ). drop ahead.from l) (sym (take-append-drop to all))
+      ∙ drop-append-le ahead.from (take to all) (drop to all) (omega (arith, order, length-take-le to all within))
+      ∙ ap (λ (l : List ℕ). l ++ drop to all) (sym is);
+}
 
 pub part_is : (file : List ℕ) (ahead : ReadAhead) (begins ends : ℕ) → IsPartOf file ahead → Covers ahead begins ends → begins ≤ ends
     → take (ends - ahead.from - (begins - ahead.from)) (drop (begins - ahead.from) ahead.bytes.items) ≡ drop begins (take ends file)
@@ -53,12 +48,3 @@ part_empty file ahead within none = record {
   within = within;
   behind = ap (λ (l : List ℕ). l ++ drop ahead.from file) (sym none);
 }
-
-pub part_lost : (file more : List ℕ) (ahead : ReadAhead) (first : ℕ) → ahead.from ≤ first → first ≤ length file → ahead.bytes.items ≡ [] → IsPartOf (take first file ++ more) ahead
-part_lost file more ahead first order long none =
-    part_empty (take first file ++ more) ahead (omega (arith, order, length-take-le first file long, length-append (take first file) more)) none
-
-pub part_kept : (d : DiskState) (path real : List ℕ) (first : ℕ) (behind : List ℕ) (old new : ReadAhead) → path ≡ real
-    → ((more : List ℕ) → IsPartOf (take first (bytes_in (d.seen path)) ++ more) old → IsPartOf (take first (bytes_in (d.seen path)) ++ more) new)
-    → IsPartOf (take first (bytes_in (d.seen real)) ++ behind) old → IsPartOf (take first (bytes_in (d.seen real)) ++ behind) new
-part_kept d path real first behind old new same kept was = grind arith

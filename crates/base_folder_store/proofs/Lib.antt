@@ -4,6 +4,7 @@ mod Beside
 mod Cached
 pub mod Causes
 pub mod Claimed
+pub mod Extents
 mod Fits
 pub mod Legible
 pub mod Looked

@@ -1,8 +1,8 @@
 -- A message looked up among those of a base.
 use Rattle.std.proofs.Common.{◌≡◌, ◌≢◌, ℕ, suc, ◌*◌, ◌/◌, ◌<◌, ◌≤◌, Bool, false, List, [], ◌∷◌, length, get_or, refl, sym, ◌∙◌, arith, ⊎_elim}
 use Rattle.std.{proofs.lemmas.Bool.{cases_lt, false_from_ne_true, or_from}, specs.List.list_any}
-use Rattle.echo_filed.specs.Filed.{Filed}
-use Rattle.base_store.specs.Keys.{digest_at}
+use Rattle.echo_filed.specs.{Filed.Filed, Stored.stored_bytes, declared.stored.Version.TheVariants.Second}
+use Rattle.base_store.specs.Keys.{RepresentsSeat, digest_at}
 use Rattle.base_file.specs.Alone.{IsStoredAlone}
 use Rattle.base_folder_store.specs.Answers.{HaveDigest, IsStoredOf}
 
@@ -16,6 +16,9 @@ other_digest test digest base keys have j d within other = false_from_ne_true (t
 
 pub stored_of : (base : List Filed) (place : ℕ) (bytes file : List ℕ) → IsStoredOf base place bytes → file ≡ bytes → (d : Filed) → IsStoredAlone (get_or base place d) file
 stored_of base place bytes file of same d = record { s = of.s; size = of.size; alone = of.alone; is = sym (of.is d); same = same ∙ of.same }
+
+pub seat_stored : (base : List Filed) (messages keys : List ℕ) (place : ℕ) (bytes : List ℕ) (seat : RepresentsSeat base messages keys place) → bytes ≡ stored_bytes Second seat.s → IsStoredOf base place bytes
+seat_stored base messages keys place bytes seat is = record { s = seat.s; size = seat.size; alone = seat.alone; is = seat.is; same = is }
 
 pub some_message : (base : List Filed) (i : ℕ) → i < length base → Filed
 some_message h1 i within = grind arith

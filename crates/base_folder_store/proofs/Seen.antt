@@ -1,14 +1,14 @@
 -- The answers of a store over a base folder about its base.
-use Rattle.std.proofs.Common.{◌≡◌, ◌<◌, ◌/◌, ◌^◌, ℕ, false, true, List, length, get_or, Option, Some, None, sym, ap, ◌∙◌, arith}
+use Rattle.std.proofs.Common.{◌≡◌, ◌<◌, ◌/◌, ◌^◌, ℕ, false, true, List, length, get_or, Option, Some, None, Result, sym, ap, ◌∙◌, arith}
 use Rattle.std.{proofs.lemmas.Option.slice_get-get_or, specs.{Prelude.{bytes_eq, option_map, slice_get, unwrap_or}, Cmp.Lexicographic.bytes_decides}}
 use Rattle.disk_io.specs.Disk.{DiskState}
 use Rattle.base_log.specs.Standing.{BaseBytes}
 use Rattle.echo_text.specs.Echo.{msgid_of}
-use Rattle.echo_filed.{specs.{Filed.{Filed, IsFiled, has_id, key_of, same_key}, declared.key.Key.Key}, proofs.Keys.same_key_decides}
+use Rattle.echo_filed.{specs.{Filed.{Filed, IsFiled, has_id, key_of, same_key}, Stored.Stored, Stored.message_in, declared.key.Key.Key, declared.stored.Version.TheVariants.Second}, proofs.Keys.same_key_decides}
 use Rattle.base_file.specs.{Alone.IsStoredAlone, Base.Base, Base.IsBase, Base.is_known}
-use Rattle.base_store.{specs.{Keys.{digested_key, digested_with}, Store.{all_scanned, with_message}}, proofs.{Digests.of_key, Recorded.recorded_base_each}}
-use Rattle.base_folder_store.specs.{Added.with_stored, Answers.HaveDigest, Held.HoldsBase, Held.digest_by, Opened.IsOpen, Opened.held_by, declared.folder.Folder.Folder}
-use Rattle.base_folder_store.proofs.{Bases.recorded_where, Legible.keys_all, Legible.legible_open, Looked.some_message, OneMore.holds_more}
+use Rattle.base_store.{specs.{Keys.{AreWhereRecorded, digested_key, digested_with}, Store.{all_scanned, with_message}, declared.store_error.StoreError.StoreError}, proofs.{Digests.of_key, Recorded.recorded_base_each}}
+use Rattle.base_folder_store.specs.{Added.with_stored, Answers.Answers, Answers.HaveDigest, Held.HoldsBase, Held.digest_by, Opened.IsOpen, Opened.held_by, Vouched.IsThere, declared.folder.Folder.Folder, declared.reading.ReadMessage.ReadMessage}
+use Rattle.base_folder_store.proofs.{Bases.recorded_where, Causes.answers_give, Legible.keys_all, Legible.legible_open, Looked.some_message, OneMore.holds_more}
 
 pub key_digest : (keyed : ℕ → ℕ → List ℕ → ℕ) (bytes : BaseBytes) (base : Base) (key : Key) (number : ℕ) → HoldsBase keyed bytes base → number ≡ digest_by keyed bytes.mark (digested_key key)
     → HaveDigest (λ m. same_key (key_of m) key) number base.messages bytes.keys
@@ -40,6 +40,13 @@ pub message_at : (base : List Filed) (place : ℕ) (m : Filed) → place < lengt
 message_at base place m within is =
     let d : Filed = some_message base place within in
     slice_get-get_or base place d within ∙ ap (λ (x : Filed). Some x) (is d)
+
+pub read_there : (held : BaseBytes) (base : List Filed) (place : ℕ) (r : Result ReadMessage StoreError) → ((s : Stored) → IsThere held place s → Answers (λ read. read.message ≡ message_in Second s) r)
+    → AreWhereRecorded base held.messages held.keys → place < length base → Answers (λ read. slice_get base place ≡ Some read.message) r
+read_there held base place r there recorded less =
+    let seat = recorded.each place less in
+    answers_give (λ (read : ReadMessage). read.message ≡ message_in Second seat.s) (λ (read : ReadMessage). slice_get base place ≡ Some read.message) (λ read is. message_at base place read.message less (λ d. seat.is d ∙ sym is)) r
+    (there seat.s (record { size = seat.size; alone = seat.alone; stored = seat.bytes }))
 
 abbrev pub at_end : Folder → Folder
 at_end f = record f { recorded = record f.recorded { cursor = f.keys / 16 } }

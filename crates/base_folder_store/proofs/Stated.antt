@@ -2,10 +2,10 @@
 use Rattle.std.proofs.Common.{◌≡◌, ◌∙◌, ◌≤◌, ◌<◌, ◌⊎◌, ℕ, Bool, false, List, length, Option, Result, Ok, Err, refl, sym, ap, subst, arith}
 use Rattle.std.specs.Prelude.{IfOk, OnOk, IsErrOf}
 use Rattle.disk_io.{specs.{Disk.{DiskState, Files, Honestly}, Runs.ChangesNothing}, proofs.Moments.weaker_run}
-use Rattle.base_log.{specs.{Moments.KeepsOutside, Standing.{BaseBytes, Represents}}, proofs.Quiet.base_quiet}
+use Rattle.base_log.{specs.{Moments.{IsBeforeOrAfter, KeepsOutside, RepresentsAlone}, Standing.{BaseBytes, Represents}}, proofs.{Paths.not_own, Quiet.base_quiet}}
 use Rattle.base_file.specs.Base.{Base}
 use Rattle.echo_filed.specs.Filed.{Filed}
-use Rattle.base_store.specs.Store.{Commits, CommitsNothing, GoesOn, HasStoreCause, IsSameStore, KeepsOthers, LooksOn, MayCommit, StoreState}
+use Rattle.base_store.specs.Store.{Commits, CommitsNothing, GoesOn, HasStoreCause, IsSameStore, KeepsOthers, LeavesCommitted, LeavesEither, LooksOn, MayCommit, StoreState}
 use Rattle.base_store.{specs.declared.store_error.StoreError.StoreError, proofs.Causes.same_error}
 use Rattle.base_store.specs.declared.store_error.StoreError.TheVariants as error
 use Rattle.base_folder_store.specs.{Opened.{IsNamed, IsOpen, committed_by, held_by, path_of}, State.{IsUsable, state_of}, declared.folder.Folder.Folder}
@@ -19,10 +19,22 @@ pub same_folder : (d e : DiskState) (keyed : ℕ → ℕ → List ℕ → ℕ) (
 same_folder d e keyed f g h k path = grind arith
 
 pub others : (d e : DiskState) (keyed : ℕ → ℕ → List ℕ → ℕ) (f g : Folder) (h k : Option Filed) → KeepsOutside (path_of f) d e → KeepsOthers (state_of d keyed f h) (state_of e keyed g k)
-others d e keyed f g h k kept = record { seen = kept.seen; named = kept.named; flushed = kept.flushed; alone = kept.alone; honest = kept.honest }
+others d e keyed f g h k kept = record {
+  seen = λ m out. kept.seen m (not_own (path_of f) m out);
+  named = λ m out. kept.named m (not_own (path_of f) m out);
+  flushed = λ m out. kept.flushed m (not_own (path_of f) m out);
+  alone = λ m out. kept.alone m (not_own (path_of f) m out);
+  honest = kept.honest;
+}
 
 pub stages : (d e : DiskState) (keyed : ℕ → ℕ → List ℕ → ℕ) (f g : Folder) (h k : Option Filed) → path_of g ≡ path_of f → StagesOnly (path_of f) (committed_by d f) d e → CommitsNothing (state_of d keyed f h) (state_of e keyed g k)
-stages d e keyed f g h k path run = grind (arith, weaker_run, others, same_folder)
+stages d e keyed f g h k path run = record {
+  any_moment = λ honest base was.
+      weaker_run d e (RepresentsAlone (path_of f) d (committed_by d f)) (LeavesCommitted (state_of d keyed f h) base) (run.any_moment honest)
+      (λ c alone. record { others = λ m out. alone.outside m (not_own (path_of f) m out); represented = record { bytes = committed_by d f; represented = alone.represented; holds = was } });
+  others = others d e keyed f g h k run.outside;
+  same = same_folder d e keyed f g h k path;
+}
 
 pub went_on : {T : Type 0} (d e : DiskState) (keyed : ℕ → ℕ → List ℕ → ℕ) (f g : Folder) (h k : Option Filed) (r : Result T StoreError) → StaysOpen f g e r → Honestly e (OnOk r (committed_by e g ≡ committed_by d f))
     → KeepsOutside (path_of f) d e → OnOk r (GoesOn (state_of d keyed f h) (state_of e keyed g k))
@@ -53,7 +65,16 @@ either_represented keyed path first next before now c was is h10 = grind arith
 
 pub may_commit : (d e : DiskState) (keyed : ℕ → ℕ → List ℕ → ℕ) (f g : Folder) (h k : Option Filed) → path_of g ≡ path_of f → CommitsOnly (path_of f) (committed_by d f) (held_by d f) d e
     → MayCommit (state_of d keyed f h) (state_of e keyed g k)
-may_commit d e keyed f g h k path run = grind (arith, weaker_run, others, either_represented, same_folder)
+may_commit d e keyed f g h k path run = record {
+  any_moment = λ honest first next was is.
+      weaker_run d e (IsBeforeOrAfter (path_of f) d (committed_by d f) (held_by d f)) (LeavesEither (state_of d keyed f h) first next) (run.any_moment honest)
+      (λ c alone. record {
+        others = λ m out. alone.outside m (not_own (path_of f) m out);
+        represented = either_represented keyed (path_of f) first next (committed_by d f) (held_by d f) c was is alone.represented;
+      });
+  others = others d e keyed f g h k run.outside;
+  same = same_folder d e keyed f g h k path;
+}
 
 pub not_damaged : {T : Type 0} (P : T → Type 0) (r : Result T StoreError) → Answers P r → IsErrOf r error.Damaged → ⊥
 not_damaged P (Ok value) was is = absurd (cc)

@@ -1,6 +1,6 @@
 -- The written bytes, and the waiting bytes after them.
-use Rattle.std.proofs.Common.{◌≡◌, ◌<◌, ◌≤◌, ◌+◌, ◌-◌, ◌++◌, ℕ, min, List, [], length, take, drop, sym, ap, ◌∙◌, arith, length-append, ⊎_elim}
-use Rattle.std.proofs.lemmas.List.{append-nil, drop-append-le, drop_all, length-take-le, take-append-le, take_all}
+use Rattle.std.proofs.Common.{◌≡◌, ◌<◌, ◌≤◌, ◌+◌, ◌-◌, ◌++◌, ℕ, min, List, [], length, take, drop, sym, ap, ◌∙◌, arith, ⊎_elim}
+use Rattle.std.proofs.lemmas.List.{append-nil, drop-append-le, drop_all, take-append-le, take_all}
 use Rattle.std.proofs.{lemmas.Bool.cases_lt, Math.Seq.drop-append-add, Math.Seq.take-append-add}
 use Rattle.disk_io.specs.Disk.{DiskState}
 use Rattle.base_log.specs.Standing.{BaseBytes, and_keys, and_messages, base_at}
@@ -11,9 +11,6 @@ nothing_more b = λ i. record { messages = append-nil b.messages i; keys = appen
 
 pub written_held : (d : DiskState) (f : Folder) → IsWritten f → held_by d f ≡ base_at d (path_of f) f.recorded
 written_held d f none = (λ i. and_keys (and_messages (base_at d (path_of f) f.recorded) (none.messages i)) (none.keys i)) ∙ nothing_more (base_at d (path_of f) f.recorded)
-
-pub count_across : (file waiting : List ℕ) (written : ℕ) → written ≤ length file → length (take written file ++ waiting) ≡ written + length waiting
-count_across file waiting written room = grind (arith, length-take-le, length-append)
 
 pub part_across : (xs ys : List ℕ) (n begins ends first last from to : ℕ) → length xs ≡ n → begins ≤ ends → first ≡ min begins n → last ≡ min ends n → from ≡ begins - n → to ≡ ends - n
     → drop first (take last xs) ++ drop from (take to ys) ≡ drop begins (take ends (xs ++ ys))

@@ -1,5 +1,7 @@
 -- Parts of files that were read ahead.
 use Rattle.std.specs.Prelude.{◌≡◌, ◌≤◌, ◌+◌, ◌++◌, ℕ, List, drop, length}
+use Rattle.disk_io.specs.Disk.{DiskState}
+use Rattle.base_folder_store.specs.{Opened.held_by, declared.folder.Folder.Folder}
 use Rattle.base_folder_store.specs.declared.read_ahead.{Buffers.Buffers, ReadAhead.ReadAhead}
 
 -- The buffer is a part of these bytes.
@@ -15,3 +17,7 @@ pub record Covers (ahead : ReadAhead) (begins ends : ℕ) : Type 0 where
 pub record AreParts (file entries : List ℕ) (buffers : Buffers) : Type 0 where
   pub messages : IsPartOf file buffers.messages
   pub keys : IsPartOf entries buffers.keys
+
+-- The buffers have parts of what the folder holds.
+abbrev pub HasParts : DiskState → Folder → Buffers → Type 0
+HasParts disk folder buffers = AreParts (held_by disk folder).messages (held_by disk folder).keys buffers

@@ -2,6 +2,7 @@ pub mod Added
 pub mod Ahead
 pub mod Answers
 pub mod Calls
+pub mod Extent
 pub mod Held
 pub mod Left
 pub mod Opened

@@ -3,9 +3,9 @@ use Rattle.std.specs.Prelude.{◌≡◌, ◌≤◌, ◌<◌, ℕ, List, drop, le
 use Rattle.disk_io.specs.Disk.{DiskState, Honestly}
 use Rattle.echo_filed.specs.{Filed.Filed, Stored.IsStored, Stored.Stored, Stored.message_in, declared.stored.Version.TheVariants.Second}
 use Rattle.base_log.specs.Standing.{BaseBytes}
-use Rattle.base_file.specs.Alone.{MayStandAlone}
+use Rattle.base_file.specs.Alone.{IsStoredAlone, MayStandAlone}
 use Rattle.base_store.specs.Keys.{HasBytesOf, digest_at, digested, place_at, place_behind}
-use Rattle.base_folder_store.specs.{Held.digest_by, Opened.IsLegible, Opened.IsWritten, declared.folder.Folder.Folder, declared.reading.StoredBytes.StoredBytes}
+use Rattle.base_folder_store.specs.{Held.digest_by, Opened.IsLegible, Opened.IsWritten, declared.folder.Folder.Folder, declared.reading.ReadMessage.ReadMessage, declared.reading.StoredBytes.StoredBytes}
 
 -- The folder is only read: no bytes wait, and if the disk was honest its messages are readable.
 pub record IsLookedAt (disk : DiskState) (folder : Folder) : Type 0 where
@@ -42,6 +42,16 @@ pub record AreBytesAt (messages keys : List ℕ) (i : ℕ) (bytes : List ℕ) : 
 pub record IsReadAt (held : BaseBytes) (i : ℕ) (stored : StoredBytes) : Type 0 where
   pub bytes : AreBytesAt held.messages held.keys i stored.bytes.items
   pub digest : stored.digest ≡ digest_at held.keys i
+
+-- The bytes there are this message, in a form that a base file may have alone.
+pub record IsMessageAt (messages keys : List ℕ) (i : ℕ) (m : Filed) : Type 0 where
+  pub bytes : List ℕ
+  pub at : AreBytesAt messages keys i bytes
+  pub alone : IsStoredAlone m bytes
+
+pub record IsReadOf (held : BaseBytes) (i : ℕ) (read : ReadMessage) : Type 0 where
+  pub message : IsMessageAt held.messages held.keys i read.message
+  pub digest : read.digest ≡ digest_at held.keys i
 
 -- No message of this number has the digest in its entry.
 abbrev pub HasNone : (ℕ → ℕ → List ℕ → ℕ) → BaseBytes → ℕ → Type 0

@@ -1,9 +1,9 @@
 //! A message looked up by its digest: only those that have it are read, and keys are compared whole.
-ghost use Rattle.std.specs.{Prelude.{◌≡◌, ◌≤◌, ◌/◌, ◌^◌, List, IsErrOf, OnOk}, List.list_any};
+ghost use Rattle.std.specs.{Prelude.{◌≡◌, ◌≤◌, ◌/◌, List, IsErrOf, OnOk}, List.list_any};
 ghost use Rattle.disk_io.specs.{Disk.Honestly, Runs.ChangesNothing};
 ghost use Rattle.echo_filed.specs.Filed.{Filed};
 ghost use Rattle.base_store.specs.{Index.IsIndexOf, Index.covered, Keys.AreWhereRecorded};
-ghost use Rattle.base_folder_store.specs.{Added.next_place, Answers.Answers, Answers.HasReadCause, Answers.HaveDigest, Opened.IsLegible, Opened.held_by};
+ghost use Rattle.base_folder_store.specs.{Answers.Answers, Answers.HasReadCause, Answers.HaveDigest, Opened.IsLegible, Opened.held_by};
 
 use crate::folder::Folder;
 use crate::sought::{Sought, is_stored};
@@ -85,7 +85,7 @@ impl Folder {
             → Answers (λ found. found ≡ list_any (W.test sought.now) base) result) }
         ensures quiet { ChangesNothing (D.state disk.old) (D.state disk.new) }
         ensures cause { HasReadCause (D.failures disk.old) (D.failures disk.new) result }
-        ensures many { IsErrOf result StoreError.TooMany → 2 ^ 64 ≤ next_place self.now }
+        ensures few { IsErrOf result StoreError.TooMany → ⊥ }
     {
         let mut below = self.count();
         'entries: while let Some(place) = index.find_below(digest, below) {
@@ -116,7 +116,7 @@ impl Folder {
         ensures indexed { Honestly (D.state disk.new) (IsIndexOf (held_by (D.state disk.old) self.now).keys index.new) }
         ensures quiet { ChangesNothing (D.state disk.old) (D.state disk.new) }
         ensures cause { HasReadCause (D.failures disk.old) (D.failures disk.new) result }
-        ensures many { IsErrOf result StoreError.TooMany → 2 ^ 64 ≤ next_place self.now }
+        ensures few { IsErrOf result StoreError.TooMany → ⊥ }
     {
         self.go_over(alloc, disk, index, digest)?;
         self.find_covered(alloc, disk, index, sought, digest)

@@ -158,10 +158,8 @@ impl<D: Disk, H: Digest> Store for FolderStore<D, H> {
         }
         let gone = self.message.take();
         self.buffers.room.take_back(gone);
-        let message = self
-            .folder
-            .read(self.alloc, &mut self.disk, &mut self.buffers, place)?;
-        self.message = Some(message);
+        let read = self.folder.read(&mut self.disk, &mut self.buffers, place)?;
+        self.message = Some(read.message);
         self.unread = unread;
         Ok(())
     }

@@ -5,6 +5,7 @@
 
 mod adding;
 mod alone;
+mod extent;
 mod finding;
 mod folder;
 mod folder_store;
@@ -20,9 +21,9 @@ mod vouching;
 mod waiting;
 
 pub use alone::{bytes_alone, read_alone};
+pub use extent::{Extent, read_at, stored_at};
 pub use folder::Folder;
 pub use folder_store::FolderStore;
 pub use laws::one_message_more;
-pub use read_ahead::ReadAhead;
-pub use reading::{Bounds, message_bounds};
+pub use read_ahead::{Buffers, ReadAhead};
 pub use sought::{Id, Sought, is_stored};

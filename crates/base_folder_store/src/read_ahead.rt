@@ -1,15 +1,16 @@
-ghost use Rattle.std.specs.Prelude.{◌≡◌, ◌≤◌, ◌-◌, ◌++◌, true, false, ℕ, List, length, take, drop, IfSome, IsSome, OnOk};
-ghost use Rattle.disk_io.specs.{Disk.Honestly, Disk.bytes_in, Runs.ChangesNothing, Runs.HasCause};
-ghost use Rattle.base_folder_store.specs.Ahead.{AreParts, Covers, IsPartOf};
+ghost use Rattle.std.specs.Prelude.{◌≡◌, ◌≤◌, ◌-◌, true, false, ℕ, List, length, take, drop, IfSome, IsSome, OnOk};
+ghost use Rattle.disk_io.specs.{Disk.Honestly, Runs.ChangesNothing, Runs.HasCause};
+ghost use Rattle.base_folder_store.specs.{Ahead.{AreParts, Covers, IsPartOf}, Extent.{IsReadable, bytes_of, size_of}};
 
+use crate::extent::{Extent, fill_across};
 use base_file::MessageRoom;
-use disk_io::{Disk, DiskError, fill_with_part};
+use disk_io::{Disk, DiskError};
 use std::alloc::Global;
 
-/// How many bytes are read at once, if the file has so many.
+/// How many bytes are read at once, if the extent has so many.
 const PIECE: usize = 65_536;
 
-/// A part of a file, and the place where it begins.
+/// A part of an extent, and the place where it begins.
 #[derive(Drop)]
 pub struct ReadAhead {
     pub(crate) from: usize,
@@ -35,22 +36,20 @@ impl ReadAhead {
         self.from <= begins && ends - self.from <= self.bytes.len()
     }
 
-    /// Reads the bytes between two places of a file, and more behind them, if it lacks them. Only the first bytes of the
-    /// file count. After a fault it has no bytes.
+    /// Reads the bytes between two places of an extent, and more behind them, if it lacks them. After a fault it has no
+    /// bytes.
     pub fn read<D: Disk>(
         &mut self,
         disk: &mut D,
-        path: &[u8],
-        first: usize,
+        extent: Extent<'_>,
         begins: usize,
         ends: usize,
     ) -> Result<(), DiskError>
-        requires there { Honestly (D.state disk.old) (IsSome ((D.state disk.old).seen path.now)) }
-        requires long { Honestly (D.state disk.old) (first ≤ length (bytes_in ((D.state disk.old).seen path.now))) }
+        requires readable { Honestly (D.state disk.old) (IsReadable (D.state disk.old) extent) }
+        requires head { extent.head ≤ extent.end }
         requires order { begins ≤ ends }
-        requires within { ends ≤ first }
-        ensures part { Honestly (D.state disk.new) ((more : List ℕ) → IsPartOf (take first (bytes_in ((D.state disk.old).seen path.now)) ++ more) self.old
-            → IsPartOf (take first (bytes_in ((D.state disk.old).seen path.now)) ++ more) self.new) }
+        requires within { ends ≤ size_of extent }
+        ensures part { Honestly (D.state disk.new) (IsPartOf (bytes_of (D.state disk.old) extent.entry) self.old → IsPartOf (bytes_of (D.state disk.old) extent.entry) self.new) }
         ensures has { Honestly (D.state disk.new) (OnOk result (Covers self.new begins ends)) }
         ensures quiet { ChangesNothing (D.state disk.old) (D.state disk.new) }
         ensures cause { HasCause (D.failures disk.old) (D.failures disk.new) result }
@@ -58,9 +57,10 @@ impl ReadAhead {
         if self.has(begins, ends) {
             return Ok(());
         }
-        let to = ends.max(begins.saturating_add(PIECE)).min(first);
+        let all = (extent.end - extent.head).saturating_add(extent.waiting.len());
+        let to = ends.max(begins.saturating_add(PIECE)).min(all);
         self.from = begins;
-        match fill_with_part(disk, path, begins, to, &mut self.bytes) {
+        match fill_across(disk, extent, begins, to, &mut self.bytes) {
             Ok(()) => Ok(()),
             Err(fault) => {
                 self.bytes.clear();
@@ -90,11 +90,12 @@ impl ReadAhead {
 pub struct Buffers {
     pub(crate) keys: ReadAhead,
     pub(crate) messages: ReadAhead,
-    pub(crate) room: MessageRoom,
+    pub room: MessageRoom,
 }
 
 impl Buffers {
-    pub(crate) fn new(alloc: Global) -> Buffers
+    /// Nothing was read.
+    pub fn new(alloc: Global) -> Buffers
         ensures { (messages keys : List ℕ) → AreParts messages keys result }
     {
         Buffers {

@@ -3,13 +3,12 @@ ghost use Rattle.std.specs.Prelude.{◌≡◌, ◌<◌, ◌/◌, ◌↔◌, IfOk
 ghost use Rattle.disk_io.specs.{Disk.Honestly, Runs.ChangesNothing};
 ghost use Rattle.echo_filed.specs.{Stored.Stored, Stored.message_in, declared.stored.Version.TheVariants.Second};
 ghost use Rattle.base_store.specs.Keys.{digested};
-ghost use Rattle.base_folder_store.specs.{Answers.Answers, Answers.HasReadCause, Held.digest_by, Opened.IsFresh, Opened.IsLegible, Opened.IsWritten, Opened.held_by};
-ghost use Rattle.base_folder_store.specs.Vouched.{HasDigest, IsThere, IsVouchedAs};
+ghost use Rattle.base_folder_store.specs.{Ahead.HasParts, Answers.Answers, Answers.HasReadCause, Held.digest_by, Opened.IsFresh, Opened.held_by};
+ghost use Rattle.base_folder_store.specs.Vouched.{HasDigest, IsLookedAt, IsThere, IsVouchedAs};
 
-use crate::alone::read_alone;
 use crate::folder::Folder;
+use crate::read_ahead::Buffers;
 use crate::waiting::Waiting;
-use base_file::MessageRoom;
 use base_log::{Log, Names};
 use base_store::{Digest, StoreError};
 use disk_io::Disk;
@@ -36,30 +35,28 @@ impl Folder {
     }
 
     /// The message of this number, counted from 0, of a folder where nothing waits. It is `Damaged` if there is none, or
-    /// if its digest differs from that of its entry.
+    /// if its digest differs from that of its entry. One read serves many messages that are read in order.
     pub fn read_vouched<D: Disk, H: Digest>(
         &self,
         alloc: Global,
         disk: &mut D,
-        room: &mut MessageRoom,
+        buffers: &mut Buffers,
         place: usize,
     ) -> Result<Filed, StoreError>
-        requires legible { Honestly (D.state disk.old) (IsLegible (D.state disk.old) self.now) }
+        requires looked { IsLookedAt (D.state disk.old) self.now }
+        requires parts { Honestly (D.state disk.old) (HasParts (D.state disk.old) self.now buffers.old) }
         requires within { place < self.now.keys / 16 }
-        requires written { IsWritten self.now }
         ensures message { Honestly (D.state disk.new) ((s : Stored) → IsThere (held_by (D.state disk.old) self.now) place s → HasDigest H.keyed (held_by (D.state disk.old) self.now) place s
             → Answers (λ message. message ≡ message_in Second s) result) }
         ensures vouched { Honestly (D.state disk.new) (IfOk result (IsVouchedAs H.keyed (held_by (D.state disk.old) self.now) place)) }
+        ensures parts { Honestly (D.state disk.new) (HasParts (D.state disk.old) self.now buffers.new) }
         ensures quiet { ChangesNothing (D.state disk.old) (D.state disk.new) }
         ensures cause { HasReadCause (D.failures disk.old) (D.failures disk.new) result }
         ensures few { IsErrOf result StoreError.TooMany → ⊥ }
     {
-        // Eight bytes count the messages, so `TooMany` never comes.
-        let _counted = self.recorded.messages;
-        let stored = self.stored(alloc, disk, None, place)?;
-        let message = read_alone(room, &stored.bytes)?;
-        if self.has_digest::<H>(alloc, &message, stored.digest)? {
-            Ok(message)
+        let read = self.read(disk, buffers, place)?;
+        if self.has_digest::<H>(alloc, &read.message, read.digest)? {
+            Ok(read.message)
         } else {
             Err(StoreError::Damaged)
         }

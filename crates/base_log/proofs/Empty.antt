@@ -4,10 +4,10 @@ use Rattle.disk_io.specs.{Disk.DiskState, Disk.Files, Disk.bytes_in, Disk.IsIn, 
 use Rattle.disk_io.specs.Synced.{IsOnDisk}
 use Rattle.disk_io.proofs.Moments.{no_call, then_nothing, then_run, then_call, left_now, weaker_run}
 use Rattle.base_log.specs.Standing.{BaseBytes, IsEnded, IsFrontOf, IsNew, Represents}
-use Rattle.base_log.specs.{Names.log_of, Names.messages_of, Names.keys_of, Log.IsLog, Log.IsShutAt, Moments.RepresentsAlone, Moments.SameOutside, Moments.KeepsOutside}
+use Rattle.base_log.specs.{Names.IsFileOf, Names.log_of, Names.messages_of, Names.keys_of, Log.IsLog, Log.IsShutAt, Moments.RepresentsAlone, Moments.SameOutside, Moments.KeepsOutside}
 use Rattle.base_log.specs.Opening.{AreFlushed, AreNamed, RepresentsOrWasLeft}
-use Rattle.base_log.proofs.Paths.{log_in, messages_in, keys_in, messages_not_log, keys_not_log}
-use Rattle.base_log.proofs.{Calls.Made, Same.recorded_base_by, Gates.outside_log}
+use Rattle.base_log.proofs.Paths.{log_in, log_own, other_than, messages_in, keys_in, messages_not_log, keys_not_log}
+use Rattle.base_log.proofs.{Calls.Made, Same.recorded_base_by}
 
 -- ---- no record
 
@@ -61,7 +61,7 @@ module _ (d0 d1 : DiskState) (path : List ℕ) (base : BaseBytes) (quiet : Chang
 
   new_changed : (a c : Files) → NewAlone a → ((m : List ℕ) → m ≢ log_of path → c m ≡ a m) → length (bytes_in (c (log_of path))) ≤ 1 → NewAlone c
   new_changed a c was same short = record {
-    outside = λ m out is flushed. same m (outside_log path m out) ∙ was.outside m out is flushed;
+    outside = λ m out is flushed. same m (other_than path (log_of path) m (log_own path) out) ∙ was.outside m out is flushed;
     is = record {
       log = short;
       empty = record {
@@ -111,12 +111,12 @@ module _ (d0 : DiskState) (path : List ℕ) (on : IsOnDisk d0 (log_of path)) whe
   pub log_alone_first : LeavesOnly d0 d0 LogAlone
   log_alone_first = no_call d0 LogAlone (λ c left. record { log = d0.on_disk (log_of path) on.named on.flushed c left; outside = λ m out named flushed. d0.on_disk m named flushed c left })
 
-  pub log_alone_made : (d e : DiskState) (file : List ℕ) → IsIn path file → log_of path ≢ file → d.is_named file → LeavesOnly d0 d LogAlone → Made d e file → LeavesOnly d0 e LogAlone
-  log_alone_made d e file inside ne named run call =
+  pub log_alone_made : (d e : DiskState) (file : List ℕ) → IsFileOf path file → log_of path ≢ file → d.is_named file → LeavesOnly d0 d LogAlone → Made d e file → LeavesOnly d0 e LogAlone
+  log_alone_made d e file own ne named run call =
       then_call d0 d e LogAlone (ChangesFile d file TornMaking) run call
       (λ a c was changed. record {
         log = changed.others (log_of path) ne (inl named) ∙ was.log;
-        outside = λ m out is flushed. changed.others m (λ e. out (subst (λ (l : List ℕ). IsIn path l) (sym e) inside)) (inl named) ∙ was.outside m out is flushed;
+        outside = λ m out is flushed. changed.others m (other_than path file m own out) (inl named) ∙ was.outside m out is flushed;
       })
 
   pub log_alone_represented : (d : DiskState) (base : BaseBytes) → Represents path base d0.seen → IsLog [] (bytes_in (d0.seen (log_of path))) → IsShutAt 0 (bytes_in (d0.seen (log_of path))) → LeavesOnly d0 d LogAlone

@@ -10,14 +10,11 @@ use Rattle.base_log.specs.{Names.log_of, Names.messages_of, Names.keys_of, Stand
 use Rattle.base_log.specs.{Moments.SameOutside, Moments.KeepsOutside, Moments.IsBeforeOrAfter, declared.log.CommitRecord.CommitRecord, declared.log.End.End}
 use Rattle.base_log.proofs.Keeping.{on_disk_kept, on_disk_quiet, outside_kept, outside_quiet, outside_twice, settled_on}
 use Rattle.base_log.proofs.Logs.{opened-snoc, AreBodies-snoc, last_recorded-snoc, shut_log, shut_at, torn_record, whole_record, torn_gate, whole_gate}
-use Rattle.base_log.proofs.Paths.{log_in, messages_in, keys_in, messages_not_log, keys_not_log}
+use Rattle.base_log.proofs.Paths.{log_own, other_than, messages_in, keys_in, messages_not_log, keys_not_log}
 use Rattle.base_log.proofs.Same.{AreThere-both, RecordsBase-seen, log_changed}
 
 pub recorded_by-body_of : (recorded : CommitRecord) → FitsRecord recorded → recorded_by (body_of recorded) ≡ recorded
 recorded_by-body_of recorded fits = grind (arith, from_le_bytes-to_le_bytes_8)
-
-pub outside_log : (path m : List ℕ) → (IsIn path m → ⊥) → m ≢ log_of path
-outside_log path m out is = out (subst (λ (l : List ℕ). IsIn path l) (sym is) (log_in path))
 
 record_behind : (bodies : List (List ℕ)) (body left : List ℕ) → opened bodies ++ 1 ∷ ((body ++ 0 ∷ []) ++ left) ≡ opened (bodies ++ body ∷ []) ++ 0 ∷ left
 record_behind bodies body left = ap (λ (l : List ℕ). opened bodies ++ 1 ∷ l) (append_assoc body (0 ∷ []) left) ∙ sym (opened-snoc bodies body (0 ∷ left))
@@ -95,7 +92,7 @@ module _ (d0 : DiskState) (path : List ℕ) (end : End) (recorded : CommitRecord
         let a_log : bytes_in (a (log_of path)) ≡ front ++ closed ∷ staged.log.rest = ap bytes_in (d.on_disk (log_of path) r.log_on.named r.log_on.flushed a from.1) ∙ r.log in
         let c_log = torn_record front closed staged.log.rest n (a (log_of path)) (c (log_of path)) torn a_log in (
           before_log a c closed (drop (length front + 1) (bytes_in (c (log_of path)))) (r.represented a from.1) same staged.log.rest a_log staged.log.shut c_log,
-          λ m out named flushed. same m (outside_log path m out) ∙ r.outside a from.1 m out named flushed,
+          λ m out named flushed. same m (other_than path (log_of path) m (log_own path) out) ∙ r.outside a from.1 m out named flushed,
         )
 
     pub run_record : (n : ℕ) → Ready d staged.log.rest → LeavesOnly d e (OneStepOn (ChangesFile d (log_of path) (TornWrite (end.records_len + 1) n)) d) → LeavesOnly d0 e P
@@ -115,7 +112,7 @@ module _ (d0 : DiskState) (path : List ℕ) (end : End) (recorded : CommitRecord
           run = run_record (length bytes) r more;
           represented = λ c left. (record_torn (length bytes) r c (left_now d e Q more c left)).0;
           outside = λ c left. (record_torn (length bytes) r c (left_now d e Q more c left)).1;
-          kept = outside_twice path d0 d e r.kept (outside_kept path (log_of path) d e (log_in path) kept);
+          kept = outside_twice path d0 d e r.kept (outside_kept path (log_of path) d e (log_own path) kept);
           log = whole_record front closed staged.log.rest bytes log is;
           log_on = on;
           named = λ m inside. kept.named m (r.named m inside);
@@ -140,7 +137,7 @@ module _ (d0 : DiskState) (path : List ℕ) (end : End) (recorded : CommitRecord
         let a_log : bytes_in (a (log_of path)) ≡ front ++ closed ∷ tail = ap bytes_in (d.on_disk (log_of path) r.log_on.named r.log_on.flushed a from.1) ∙ r.log in
         let gate = get_or log (length front) 0 in
         let whole : log ≡ front ++ gate ∷ tail = torn_gate front closed tail (a (log_of path)) (c (log_of path)) torn a_log in
-        let outside : SameOutside path d0 c = λ m out named flushed. same m (outside_log path m out) ∙ r.outside a from.1 m out named flushed in
+        let outside : SameOutside path d0 c = λ m out named flushed. same m (other_than path (log_of path) m (log_own path) out) ∙ r.outside a from.1 m out named flushed in
         let m_same : c (messages_of path recorded.number) ≡ d0.seen (messages_of path recorded.number) =
         same (messages_of path recorded.number) (messages_not_log path recorded.number) ∙ d.on_disk (messages_of path recorded.number) r.messages_on.named r.messages_on.flushed a from.1 ∙ r.messages_same in
         let k_same : c (keys_of path recorded.number) ≡ d0.seen (keys_of path recorded.number) =

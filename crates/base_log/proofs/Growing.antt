@@ -2,15 +2,15 @@
 use Rattle.std.proofs.Common.{◌≡◌, ◌≢◌, ◌≤◌, inl, inr, ℕ, ◌+◌, min, List, [], ◌∷◌, ◌++◌, length, take, drop, Option, refl, sym, ◌∙◌, ap, subst, arith, append_assoc, length-append, length-take}
 use Rattle.std.proofs.lemmas.{Bool.cases_eq, List.take_at, List.take-take, List.take-append-le}
 use Rattle.std.specs.Prelude.{IsSome}
-use Rattle.disk_io.specs.{Disk.DiskState, Disk.Files, Disk.bytes_in, Disk.IsIn, Steps.IsWrittenAt, Steps.TornWrite, Steps.ChangesFile, Runs.OneStepOn, Runs.LeavesOnly, Synced.KeepsOthers}
+use Rattle.disk_io.specs.{Disk.DiskState, Disk.Files, Disk.bytes_in, Steps.IsWrittenAt, Steps.TornWrite, Steps.ChangesFile, Runs.OneStepOn, Runs.LeavesOnly, Synced.KeepsOthers}
 use Rattle.disk_io.proofs.{Moments.one_call, Moments.weaker_run, Tearing.TornWrite-none, Tearing.ChangesFile-none}
-use Rattle.base_log.specs.Names.{AreNames, folder_of, log_of, messages_of, keys_of}
+use Rattle.base_log.specs.Names.{AreNames, IsFileOf, folder_of, log_of, messages_of, keys_of}
 use Rattle.base_log.specs.Standing.{BaseBytes, IsFrontOf, AreThere, Represents, RecordsBase, base_at}
 use Rattle.base_log.specs.Growing.{and_bytes, counted, file_of, path_in, with_more}
 use Rattle.base_log.specs.{Log.IsLog, Log.last_recorded, Log.opened, AtRest.HoldsNext, AtRest.IsLogAt, AtRest.IsStaged, Moments.RepresentsAlone, declared.log.CommitRecord.CommitRecord}
 use Rattle.base_log.specs.declared.{log.End.End, names.Names.Names, staging.GrowingFile.GrowingFile}
 use Rattle.base_log.specs.declared.staging.GrowingFile.TheVariants as file
-use Rattle.base_log.proofs.Paths.{log_not_messages, log_not_keys, messages_not_keys, keys_not_messages, messages_of-injective, keys_of-injective, messages_in, keys_in}
+use Rattle.base_log.proofs.Paths.{log_not_messages, log_not_keys, messages_not_keys, keys_not_messages, messages_of-injective, keys_of-injective, messages_own, keys_own, other_than, own_in}
 use Rattle.base_log.proofs.{Keeping.log_moved, Keeping.on_disk_kept, Calls.Wrote, Calls.others_kept, Logs.shut_log, Logs.shut_at, Same.front_long, Same.recorded_base_by}
 
 -- ---- bytes
@@ -43,9 +43,9 @@ pub file_named : (names : Names) (number : ℕ) (f : GrowingFile) → AreNames n
 file_named names number file.Messages are = are.messages
 file_named names number file.Keys are = are.keys
 
-pub file_inside : (path : List ℕ) (number : ℕ) (f : GrowingFile) → IsIn path (file_of path number f)
-file_inside path number file.Messages = messages_in path number
-file_inside path number file.Keys = keys_in path number
+pub file_own : (path : List ℕ) (number : ℕ) (f : GrowingFile) → IsFileOf path (file_of path number f)
+file_own path number file.Messages = messages_own path number
+file_own path number file.Keys = keys_own path number
 
 log_not_file : (path : List ℕ) (number : ℕ) (f : GrowingFile) → log_of path ≢ file_of path number f
 log_not_file path number file.Messages = log_not_messages path number
@@ -166,13 +166,13 @@ module _ (d0 d : DiskState) (path : List ℕ) (end : End) (recorded : CommitReco
   torn n c from =
       let a = from.0 in
       let changed = from.2 in
-      let inside = file_inside path recorded.number f in
-      let file_named = staged.log.named at inside in
+      let own = file_own path recorded.number f in
+      let file_named = staged.log.named at (own_in path at own) in
       let same : (m : List ℕ) → m ≢ at → c m ≡ a m = λ m ne. changed.others m ne (inl file_named) in
       let a_is = d0.on_disk (log_of path) staged.log.on_disk.named staged.log.on_disk.flushed a from.1 in
       let step = changed.within file_named in
       record {
-        outside = λ m out named flushed. same m (λ e. out (subst (λ (l : List ℕ). IsIn path l) (sym e) inside)) ∙ d0.on_disk m named flushed a from.1;
+        outside = λ m out named flushed. same m (other_than path at m own out) ∙ d0.on_disk m named flushed a from.1;
         represented = stand a c (staged.represented a from.1) a_is same step.there (λ le is. front_torn (part now f) (counted recorded f) n (a at) (c at) le is step);
       }
 

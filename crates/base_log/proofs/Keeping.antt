@@ -1,8 +1,8 @@
 -- Calls that keep files: their paths, their bytes on the disk, and the log.
 use Rattle.std.proofs.Common.{◌≡◌, ◌≢◌, List, ℕ, arith}
 use Rattle.std.specs.Prelude.{IsSome}
-use Rattle.disk_io.specs.{Disk.DiskState, Disk.IsIn, Runs.ChangesNothing, Synced.IsOnDisk, Synced.KeepsOthers}
-use Rattle.base_log.specs.{Names.log_of, AtRest.IsLogAt, Moments.KeepsOutside, Opening.AreNamed, Opening.KeepsButOne, declared.log.End.End}
+use Rattle.disk_io.specs.{Disk.DiskState, Runs.ChangesNothing, Synced.IsOnDisk, Synced.KeepsOthers}
+use Rattle.base_log.specs.{Names.IsFileOf, Names.log_of, AtRest.IsLogAt, Moments.KeepsOutside, Opening.AreNamed, Opening.KeepsButOne, declared.log.End.End}
 
 pub but_one_quiet : (d e : DiskState) (file : List ℕ) → ChangesNothing d e → KeepsButOne d e file
 but_one_quiet d e file quiet = grind arith
@@ -13,11 +13,11 @@ but_one_twice d e f file one two = grind arith
 but_one_others : (d e : DiskState) (file : List ℕ) → KeepsOthers d e file → KeepsButOne d e file
 but_one_others d e file kept = record { seen = kept.seen; named = λ m ne. kept.named m; flushed = kept.flushed; alone = λ m ne. kept.alone m; honest = kept.honest }
 
-pub outside_but_one : (path : List ℕ) (d e : DiskState) (file : List ℕ) → IsIn path file → KeepsButOne d e file → KeepsOutside path d e
-outside_but_one path d e file inside kept = grind arith
+pub outside_but_one : (path : List ℕ) (d e : DiskState) (file : List ℕ) → IsFileOf path file → KeepsButOne d e file → KeepsOutside path d e
+outside_but_one path d e file own kept = grind arith
 
-pub outside_kept : (path file : List ℕ) (d e : DiskState) → IsIn path file → KeepsOthers d e file → KeepsOutside path d e
-outside_kept path file d e inside kept = outside_but_one path d e file inside (but_one_others d e file kept)
+pub outside_kept : (path file : List ℕ) (d e : DiskState) → IsFileOf path file → KeepsOthers d e file → KeepsOutside path d e
+outside_kept path file d e own kept = outside_but_one path d e file own (but_one_others d e file kept)
 
 pub outside_quiet : (path : List ℕ) (d e : DiskState) → ChangesNothing d e → KeepsOutside path d e
 outside_quiet path d e quiet = grind arith

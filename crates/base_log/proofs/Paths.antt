@@ -1,9 +1,9 @@
 -- The files of a folder are in it, and their paths differ.
-use Rattle.std.proofs.Common.{◌==◌, ◌&&◌, not, true, ◌≡◌, ◌≢◌, ℕ, ◌+◌, List, [], ◌∷◌, ◌++◌, get_or, refl, sym, ap, arith, All}
+use Rattle.std.proofs.Common.{◌==◌, ◌&&◌, not, true, ◌≡◌, ◌≢◌, ℕ, ◌+◌, List, [], ◌∷◌, ◌++◌, get_or, inl, inr, refl, sym, subst, ap, arith, All}
 use Rattle.std.proofs.lemmas.{List.append_cancel_left, List.Elements.All-weaker, List.Sums.AllPass-from_list_all, Bool.eqb-false, Bool.ne_eqb, Bool.not-true}
 use Rattle.std.specs.List.{list_all}
 use Rattle.disk_io.specs.Disk.{IsIn}
-use Rattle.base_log.specs.{Names.IsOtherNumber, Names.log_of, Names.messages_of, Names.keys_of, declared.names.TheConstants.LOG, declared.names.TheConstants.MESSAGES, declared.names.TheConstants.KEYS}
+use Rattle.base_log.specs.{Names.IsFileOf, Names.IsOtherNumber, Names.log_of, Names.messages_of, Names.keys_of, declared.names.TheConstants.LOG, declared.names.TheConstants.MESSAGES, declared.names.TheConstants.KEYS}
 
 pub log_not_messages : (path : List ℕ) (n : ℕ) → log_of path ≢ messages_of path n
 log_not_messages path n is = absurd (omega (arith, ap (λ (l : List ℕ). get_or l 0 0) (append_cancel_left path LOG.now (MESSAGES.now ++ (48 + n) ∷ []) is)))
@@ -44,8 +44,26 @@ messages_in path n = record { name = MESSAGES.now ++ (48 + n) ∷ []; parts = re
 pub keys_in : (path : List ℕ) (n : ℕ) → IsIn path (keys_of path n)
 keys_in path n = record { name = KEYS.now ++ (48 + n) ∷ []; parts = refl; plain = no_slash (KEYS.now ++ (48 + n) ∷ []) (digit n) }
 
+pub log_own : (path : List ℕ) → IsFileOf path (log_of path)
+log_own path = inl refl
+
+pub messages_own : (path : List ℕ) (n : ℕ) → IsFileOf path (messages_of path n)
+messages_own path n = inr (n, inl refl)
+
+pub keys_own : (path : List ℕ) (n : ℕ) → IsFileOf path (keys_of path n)
+keys_own path n = inr (n, inr refl)
+
+pub own_in : (path m : List ℕ) → IsFileOf path m → IsIn path m
+own_in path m own = grind (arith, log_in, messages_in, keys_in)
+
+pub other_than : (path file m : List ℕ) → IsFileOf path file → (IsFileOf path m → ⊥) → m ≢ file
+other_than path file m own out is = out (subst (λ (l : List ℕ). IsFileOf path l) (sym is) own)
+
+pub not_own : (path m : List ℕ) → (IsIn path m → ⊥) → IsFileOf path m → ⊥
+not_own path m out own = out (own_in path m own)
+
 pub messages_others : (path : List ℕ) (n number : ℕ) → number ≢ n → IsOtherNumber path n (messages_of path number)
-messages_others path n number other = grind (arith, messages_in, log_not_messages, messages_of-injective, keys_not_messages)
+messages_others path n number other = grind (arith, messages_own, log_not_messages, messages_of-injective, keys_not_messages)
 
 pub keys_others : (path : List ℕ) (n number : ℕ) → number ≢ n → IsOtherNumber path n (keys_of path number)
-keys_others path n number other = grind (arith, keys_in, log_not_keys, messages_not_keys, keys_of-injective)
+keys_others path n number other = grind (arith, keys_own, log_not_keys, messages_not_keys, keys_of-injective)

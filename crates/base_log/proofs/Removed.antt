@@ -5,7 +5,7 @@ use Rattle.disk_io.specs.{Disk.DiskState, Disk.IsIn, Runs.ChangesAt, Runs.Change
 use Rattle.base_log.specs.{Names.IsOtherNumber, Names.messages_of, Names.keys_of, AtRest.IsAtRest, Moments.RepresentsAlone, Opening.KeepsButOne, Standing.base_at, declared.log.End.End}
 use Rattle.disk_io.proofs.Moments.{then_nothing}
 use Rattle.base_log.proofs.Renewed.{FilesAlone, alone_changed, alone_first, alone_run, same_base}
-use Rattle.base_log.proofs.Keeping.{log_moved, on_disk_but_one}
+use Rattle.base_log.proofs.{Keeping.log_moved, Keeping.on_disk_but_one, Paths.own_in}
 
 pub not_there : (f : Option (List ℕ)) → (IsSome f → ⊥) → f ≡ None
 not_there None none = refl
@@ -27,5 +27,5 @@ module _ (d0 : DiskState) (path : List ℕ) (end : End) (rest : IsAtRest d0 path
       → ChangesAt (ThisPath file) (ThisPath file) (ThisPath file) (ChangesFile d1 file TornRemoval) d1 d2 → LeavesOnly d0 d2 (RepresentsAlone path d0 (base_at d0 path end.recorded))
   removed_run d1 d2 file others quiet call =
       alone_run d0 path end rest d2
-      (alone_changed d0 path end rest TornRemoval d1 d2 file others (quiet.named file (λ h. h) (rest.log.named file others.inside))
+      (alone_changed d0 path end rest TornRemoval d1 d2 file others (quiet.named file (λ h. h) (rest.log.named file (own_in path file others.own)))
       (then_nothing d0 d0 d1 (FilesAlone d0 path end rest) (alone_first d0 path end rest) quiet) call)

@@ -1,9 +1,9 @@
 -- A base folder at rest, in which a call makes other files.
 use Rattle.std.proofs.Common.{◌≡◌, inl, ℕ, List, Option, take, sym, ◌∙◌, subst, arith}
-use Rattle.disk_io.specs.{Disk.DiskState, Disk.Files, Disk.bytes_in, Disk.IsIn, Steps.ChangesFile, Runs.ChangesAt, Runs.LeavesOnly}
+use Rattle.disk_io.specs.{Disk.DiskState, Disk.Files, Disk.bytes_in, Steps.ChangesFile, Runs.ChangesAt, Runs.LeavesOnly}
 use Rattle.disk_io.proofs.Moments.{no_call, then_call, weaker_run}
 use Rattle.base_log.specs.{Names.IsOtherNumber, Names.log_of, Names.messages_of, Names.keys_of, Standing.base_at, AtRest.IsAtRest, Moments.SameOutside, Moments.RepresentsAlone, declared.log.End.End}
-use Rattle.base_log.proofs.Rested.{rest_same}
+use Rattle.base_log.proofs.{Paths.other_than, Rested.rest_same}
 
 module _ (d0 : DiskState) (path : List ℕ) (end : End) (rest : IsAtRest d0 path end) where
   pub record FilesAlone (c : Files) : Type 0 where
@@ -23,7 +23,7 @@ module _ (d0 : DiskState) (path : List ℕ) (end : End) (rest : IsAtRest d0 path
         log = changed.others (log_of path) others.not_log (inl named) ∙ was.log;
         messages = changed.others (messages_of path end.recorded.number) others.not_messages (inl named) ∙ was.messages;
         keys = changed.others (keys_of path end.recorded.number) others.not_keys (inl named) ∙ was.keys;
-        outside = λ m out is flushed. changed.others m (λ e. out (subst (λ (l : List ℕ). IsIn path l) (sym e) others.inside)) (inl named) ∙ was.outside m out is flushed;
+        outside = λ m out is flushed. changed.others m (other_than path file m others.own out) (inl named) ∙ was.outside m out is flushed;
       })
 
   pub alone_represented : (c : Files) → FilesAlone c → RepresentsAlone path d0 (base_at d0 path end.recorded) c

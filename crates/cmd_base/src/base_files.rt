@@ -2,7 +2,6 @@
 //! base file, and its own lock. It replaces no file except one that a stopped run left, and it is removed if the command
 //! fails. The lock of a file that became the base file is held as long as these files.
 
-use cmd_input::BASE_START;
 use disk_system::{Access, OutputFault, check_left, give_access, make_new, replaced_access};
 use std::alloc::Allocator;
 use std::cell::Cell;
@@ -10,6 +9,9 @@ use std::fs::{File, Metadata, OpenOptions};
 use std::io::ErrorKind;
 use std::rt::Files;
 use std::{fs, io};
+
+/// The first bytes of every base file.
+pub const BASE_START: &[u8] = b"ECHOBAS";
 
 /// The end of a staging path.
 const BESIDE: &str = "~.new";
@@ -74,7 +76,11 @@ impl<'r> BaseFiles<'r> {
 
     fn made_at(&self, path: &str) -> Option<io::Result<File>> {
         let made = self.made.take()?;
-        let file = made.opened_at(path);
+        let file = if made.path.as_str() == path {
+            Some(made.file.try_clone())
+        } else {
+            None
+        };
         self.made.set(Some(made));
         file
     }
@@ -93,14 +99,6 @@ impl Made {
             give_access(&self.file, access)?;
         }
         self.file.try_clone()
-    }
-
-    fn opened_at(&self, path: &str) -> Option<io::Result<File>> {
-        if self.path.as_str() == path {
-            Some(self.file.try_clone())
-        } else {
-            None
-        }
     }
 }
 

@@ -50,14 +50,10 @@ fn has_hard_links<'a>(rt: &HostRuntime, base: &'a str) -> Result<bool, Fault<'a>
 // A name that is no text does not belong to a base folder.
 fn is_linked_entry(entry: io::Result<DirEntry>) -> bool {
     match entry {
-        Ok(entry) => is_linked_file(entry.metadata()),
-        Err(_) => false,
-    }
-}
-
-fn is_linked_file(found: io::Result<Metadata>) -> bool {
-    match found {
-        Ok(found) => has_second_path(&found),
+        Ok(entry) => match entry.metadata() {
+            Ok(found) => has_second_path(&found),
+            Err(_) => false,
+        },
         Err(_) => false,
     }
 }
@@ -121,10 +117,6 @@ fn copy_number(rt: &HostRuntime, path: &str, number: u8, staging: &str) -> Resul
     requires { number < 10 }
 {
     let names = Names::new(rt.alloc(), path.as_bytes(), number)?;
-    copy_both(rt, &names, staging)
-}
-
-fn copy_both(rt: &HostRuntime, names: &Names, staging: &str) -> Result<(), OutputFault> {
     copy_if_linked(rt, text_path(&names.messages), staging)?;
     copy_if_linked(rt, text_path(&names.keys), staging)
 }

@@ -1,18 +1,17 @@
-//! The base of a station, a file or a folder, for the commands that change it. The listed packets of earlier scans are
-//! noted unchanged (`remember`, `copies_of`); all else is proved to be safe and to end, and no more. Begin with
-//! `base_files`, the files of the system on which a base file is replaced.
+//! The base of a station on the files of the system: which BASE is a folder, its messages, and the files on which a base is
+//! replaced. A base of either kind is one source of messages (`EitherBase`). The rest is proved to be safe and to end, and
+//! no more. Begin with `messages`, which opens a base.
 #![tactic(auto)]
 
 mod base_files;
-mod expecting;
+mod folders;
 mod hard_links;
-mod left_files;
-mod outbound_note;
-mod scan_files;
+mod messages;
 
-pub use base_files::BaseFiles;
-pub use expecting::expected_keys;
+pub use base_files::{BASE_START, BaseFiles, system_error, target_staging};
+pub use folders::{drawn_key, flush_name, hash_state, is_folder, is_strange, is_unused};
 pub use hard_links::break_hard_links;
-pub use left_files::LeftFiles;
-pub use outbound_note::note_outbound;
-pub use scan_files::ScanFiles;
+pub use messages::{
+    BaseMessages, EitherBase, Messages, check_base, load_file, messages_fault, open_base,
+    open_folder,
+};

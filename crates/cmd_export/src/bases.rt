@@ -1,8 +1,7 @@
-use crate::files::reported_bytes;
-use crate::listing::{export_folder, list_folder};
-use base_file::BaseFault;
-use base_folder::BaseReader;
-use cmd_input::{Progress, is_folder, read_file};
+use crate::files::open_reported;
+use base_folder::MessageSource;
+use cmd_base::open_base;
+use cmd_input::Progress;
 use cmd_print::ListForm;
 use cmd_repair::list_ids;
 use cmd_show::{ExportQuery, ListQuery, export, list, list_areas, tell_lost};
@@ -10,70 +9,53 @@ use cmd_status::{Fault, Status, parse_number};
 use cmd_words::{ExportWords, ListWords};
 use disk_io::Sink;
 use echo_export::Form;
-use std::collections::hash_map::RandomState;
+
+/// The number of this word, or that of the first message.
+pub(crate) fn first_number<'a>(word: Option<&str>) -> Result<u64, Fault<'a>> {
+    match word {
+        Some(word) => parse_number(word),
+        None => Ok(0),
+    }
+}
 
 /// `list [--short | --areas | --ids] [--area TAG] [--from I] BASE`: it judges the number first, then the base. Of a folder it
-/// reads only the messages asked for. A missing seed for the hasher is a failed read.
+/// reads only the messages asked for.
 pub(crate) fn run_list<'a, W: Sink>(
     rt: &HostRuntime,
     words: &ListWords<'a>,
     progress: &Progress<'_>,
     out: &mut W,
 ) -> Result<Status, Fault<'a>> {
-    let first = match words.from {
-        Some(word) => parse_number(word)?,
-        None => 0,
-    };
-    if is_folder(rt, words.base) {
-        return list_folder(rt, words, first, progress, out);
-    }
-    if words.ids {
-        return list_file_ids(rt, words, progress, out);
-    }
-    let hasher = RandomState::new(rt).map_err(|_| Fault::Base(BaseFault::Read))?;
-    let bytes = reported_bytes(rt, words.base, progress)?;
-    if words.areas {
-        return list_areas(rt.alloc(), &bytes, hasher, out);
-    }
-    list(rt.alloc(), &list_query(words, first), &bytes, hasher, out)
+    let first = first_number(words.from)?;
+    // `list_ids` judges each message before it prints, so that it is read once.
+    let looked = if words.ids { u64::MAX } else { first };
+    let mut messages = open_reported(rt, words.base, looked, progress)?;
+    list_opened(rt, words, first, &mut messages, out)
 }
 
-fn list_file_ids<'a, W: Sink>(
+fn list_opened<'a, M: MessageSource, W: Sink>(
     rt: &HostRuntime,
     words: &ListWords<'a>,
-    progress: &Progress<'_>,
+    first: u64,
+    messages: &mut M,
     out: &mut W,
-) -> Result<Status, Fault<'a>> {
-    let hasher = RandomState::new(rt).map_err(|_| Fault::Base(BaseFault::Read))?;
-    let bytes = reported_bytes(rt, words.base, progress)?;
-    let mut messages = BaseReader::read(rt.alloc(), &bytes, hasher)?;
-    list_ids(
-        rt.alloc(),
-        asked_area(words),
-        words.base,
-        &mut messages,
-        out,
-    )
-}
-
-/// The area of `list --ids`, which the command line has.
-pub(crate) fn asked_area<'a>(words: &ListWords<'a>) -> &'a [u8] {
-    match words.area {
-        Some(tag) => tag.as_bytes(),
-        None => &[],
+) -> Result<Status, Fault<'a>>
+    requires { (M.state messages.old).is_ready }
+{
+    let area = words.area.map(|tag| tag.as_bytes());
+    if words.ids {
+        return list_ids(rt.alloc(), area.unwrap_or(&[]), words.base, messages, out);
     }
-}
-
-pub(crate) fn list_query<'a>(words: &ListWords<'a>, first: u64) -> ListQuery<'a> {
-    ListQuery {
-        form: if words.short {
-            ListForm::Short
-        } else {
-            ListForm::Whole
-        },
-        area: words.area.map(|tag| tag.as_bytes()),
-        first,
+    if words.areas {
+        return list_areas(rt.alloc(), words.base, messages, out);
     }
+    let form = if words.short {
+        ListForm::Short
+    } else {
+        ListForm::Whole
+    };
+    let asked = ListQuery { form, area, first };
+    list(rt.alloc(), &asked, words.base, messages, out)
 }
 
 // `export [--area TAG] [--from I] [--purged] [--mbox | --json] BASE`, judged as `list` is.
@@ -82,39 +64,18 @@ fn export_given<'a, W: Sink>(
     words: &ExportWords<'a>,
     out: &mut W,
 ) -> Result<u128, Fault<'a>> {
-    let first = match words.from {
-        Some(word) => parse_number(word)?,
-        None => 0,
-    };
     let asked = ExportQuery {
-        form: export_form(words),
+        form: if words.json {
+            Form::Json
+        } else {
+            Form::Mailbox
+        },
         area: words.area.map(|tag| tag.as_bytes()),
-        first,
+        first: first_number(words.from)?,
         purged: words.purged,
     };
-    if is_folder(rt, words.base) {
-        return export_folder(rt, words.base, &asked, out);
-    }
-    export_file(rt, words.base, &asked, out)
-}
-
-fn export_form(words: &ExportWords<'_>) -> Form {
-    if words.json {
-        Form::Json
-    } else {
-        Form::Mailbox
-    }
-}
-
-fn export_file<'a, W: Sink>(
-    rt: &HostRuntime,
-    base: &'a str,
-    asked: &ExportQuery<'_>,
-    out: &mut W,
-) -> Result<u128, Fault<'a>> {
-    let hasher = RandomState::new(rt).map_err(|_| Fault::Base(BaseFault::Read))?;
-    let bytes = read_file(rt, base, usize::MAX)?;
-    export(rt.alloc(), asked, &bytes, hasher, out)
+    let mut messages = open_base(rt, words.base, asked.first)?;
+    export(rt.alloc(), &asked, words.base, &mut messages, out)
 }
 
 /// `export`, and on standard error how many characters were lost.

@@ -1,19 +1,18 @@
 //! `convert` makes a base file or a base folder with the messages of another base.
 ghost use Rattle.base_folder.specs.Source.{LooksAt};
 
-use base_file::BaseFault;
-use base_folder::{BaseReader, Distinct, FillError, MessageSource, SendError, fill, send_file};
+use base_folder::{Distinct, FillError, MessageSource, SendError, fill, send_file};
 use base_store::SipDigest;
-use cmd_input::{
-    BASE_START, drawn_key, flush_name, folder_path, is_folder, is_strange, is_unused,
-    locked_folder, messages_fault, open_folder_reader, output_fault, read_file,
+use cmd_base::{
+    BASE_START, drawn_key, flush_name, hash_state, is_folder, is_strange, is_unused, load_file,
+    messages_fault, open_folder,
 };
+use cmd_input::{folder_path, locked_folder, output_fault};
 use cmd_status::{Fault, Status, print_rest};
 use disk_io::{Sink, Watched};
 use disk_system::{
     OutputFault, RealDisk, Unknown, begin_file, drop_file, flush_folder, name_file, parent_path,
 };
-use std::collections::hash_map::RandomState;
 use std::io;
 
 /// The word in the staging path of a new base file where other files have the address of a system.
@@ -27,14 +26,16 @@ pub(crate) fn run_convert<'a, W: Sink>(
     to: &'a str,
     out: &mut W,
 ) -> Result<Status, Fault<'a>> {
-    let hasher = RandomState::new(rt).map_err(|_| Fault::Base(BaseFault::Read))?;
-    if is_folder(rt, from) {
-        let messages = open_folder_reader(rt, from, 0, None)?;
-        let mut messages = Distinct::new(rt.alloc(), messages, hasher);
-        judge_for(rt, from, &mut messages, to)?;
+    if !is_folder(rt, from) {
+        let mut messages = load_file(rt, from)?;
         return convert_messages(rt, from, &mut messages, to, out);
     }
-    let mut messages = BaseReader::read(rt.alloc(), &read_file(rt, from, usize::MAX)?, hasher)?;
+    let hasher = hash_state(rt)?;
+    let messages = open_folder(rt, from, 0, None)?;
+    let mut messages = Distinct::new(rt.alloc(), messages, hasher);
+    if is_folder(rt, to) {
+        judge_messages(rt, from, &mut messages)?;
+    }
     convert_messages(rt, from, &mut messages, to, out)
 }
 
@@ -53,22 +54,6 @@ fn convert_messages<'a, M: MessageSource, W: Sink>(
         save_file(rt, from, messages, to)?;
     }
     print_converted(rt, messages.count(), messages.cursor(), out)
-}
-
-fn judge_for<'a, M: MessageSource>(
-    rt: &HostRuntime,
-    from: &'a str,
-    messages: &mut M,
-    to: &str,
-) -> Result<(), Fault<'a>>
-    requires { (M.state messages.old).is_ready }
-    ensures { LooksAt (M.state messages.old) (M.state messages.new) }
-{
-    if is_folder(rt, to) {
-        judge_messages(rt, from, messages)
-    } else {
-        Ok(())
-    }
 }
 
 fn judge_messages<'a, M: MessageSource>(

@@ -7,7 +7,6 @@ mod bases;
 mod commands;
 mod converting;
 mod files;
-mod listing;
 mod repairing;
 mod resending;
 mod stored;

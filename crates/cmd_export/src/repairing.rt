@@ -2,12 +2,11 @@
 //! staging file. The lock of the link file is held until the packet has its name.
 ghost use Rattle.std.specs.Prelude.{◌≡◌, None};
 
+use crate::files::file_path;
 use crate::resending::check_owner;
 use base_folder::MessageSource;
-use cmd_input::{
-    LinkLock, MAX_INPUT, folder_path, is_folder, load_base, open_folder_reader, output_fault,
-    read_given,
-};
+use cmd_base::{is_folder, open_base};
+use cmd_input::{LinkLock, MAX_INPUT, output_fault, read_given, text_path};
 use cmd_repair::{KnownIds, SendFault, check_linked, push_nothing, read_ids, send_all};
 use cmd_status::{Fault, FileLock, Status, print_rest};
 use cmd_store::{push_counted, repair_name};
@@ -23,7 +22,7 @@ use station::lock_and_read_links;
 use std::alloc::AllocError;
 use std::fs::File;
 use std::io::ErrorKind;
-use std::{fs, io, str};
+use std::{fs, io};
 
 #[derive(Clone, Copy)]
 struct Repair<'r, 'l> {
@@ -40,17 +39,12 @@ pub(crate) fn run_repair<W: Sink, E: Sink>(
     out: &mut W,
     errors: &mut E,
 ) -> Status {
-    match given_list(rt, words.has) {
-        Ok(Some(list)) => repair_by(rt, words, asked, &list, out, errors),
-        Ok(None) => send_repair(rt, words, Repair { asked, held: None }, out, errors),
+    let Some(path) = words.has else {
+        return send_repair(rt, words, Repair { asked, held: None }, out, errors);
+    };
+    match read_given(rt, path, MAX_INPUT) {
+        Ok(list) => repair_by(rt, words, asked, &list, out, errors),
         Err(fault) => fault.report(errors),
-    }
-}
-
-fn given_list<'a>(rt: &HostRuntime, list: Option<&'a str>) -> Result<Option<Vec<u8>>, Fault<'a>> {
-    match list {
-        Some(path) => Ok(Some(read_given(rt, path, MAX_INPUT)?)),
-        None => Ok(None),
     }
 }
 
@@ -89,8 +83,12 @@ fn send_repair<W: Sink, E: Sink>(
 ) -> Status {
     let mut disk = RealDisk::new(rt, Unknown);
     let mut lock = LinkLock::ahead(rt, words.place.links);
-    match links_judged(rt, &mut disk, &mut lock, words, repair.asked) {
-        Ok(links) => send_base(rt, words, repair, &links, out, errors),
+    let links = match links_judged(rt, &mut disk, &mut lock, words, repair.asked) {
+        Ok(links) => links,
+        Err(fault) => return fault.report(errors),
+    };
+    match open_base(rt, words.place.base, judged_from(repair.asked)) {
+        Ok(mut messages) => send_messages(rt, words, repair, &links, &mut messages, out, errors),
         Err(fault) => fault.report(errors),
     }
 }
@@ -110,26 +108,6 @@ fn links_judged<'a, D: Disk, L: FileLock>(
     check_linked(&links, &area, asked.to)?;
     check_owner(rt, disk, words.place.base, links.system())?;
     Ok(links)
-}
-
-fn send_base<W: Sink, E: Sink>(
-    rt: &HostRuntime,
-    words: &ResendWords<'_>,
-    repair: Repair<'_, '_>,
-    links: &LinkFile,
-    out: &mut W,
-    errors: &mut E,
-) -> Status {
-    if is_folder(rt, words.place.base) {
-        return match open_folder_reader(rt, words.place.base, judged_from(repair.asked), None) {
-            Ok(mut messages) => send_messages(rt, words, repair, links, &mut messages, out, errors),
-            Err(fault) => fault.report(errors),
-        };
-    }
-    match load_base(rt, words.place.base) {
-        Ok(mut messages) => send_messages(rt, words, repair, links, &mut messages, out, errors),
-        Err(fault) => fault.report(errors),
-    }
 }
 
 // The first message that is judged before the packet is begun. Each is judged as it is sent, so it is read once. Only a
@@ -320,8 +298,6 @@ fn path_of(
     asked: Resend<'_>,
     number: u32,
 ) -> Result<String, AllocError> {
-    let mut path = folder_path(rt, folder)?;
     let name = repair_name(rt.alloc(), asked.to, asked.first, number)?;
-    path.push_str(str::from_utf8(&name).unwrap_or(""))?;
-    Ok(path)
+    file_path(rt, folder, text_path(&name))
 }

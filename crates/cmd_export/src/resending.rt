@@ -1,16 +1,15 @@
 //! `resend`: a lost packet is made again. The lock of the link file is held until the packet has its name.
 ghost use Rattle.std.specs.Prelude.{◌≡◌, None};
 
+use crate::bases::first_number;
+use crate::files::file_path;
 use crate::repairing::run_repair;
-use base_file::BaseFault;
 use base_folder::{judge_owner, log_end};
-use cmd_input::{
-    LinkLock, folder_path, is_folder, is_strange, named_stamp, open_folder_reader, output_fault,
-    read_file,
-};
-use cmd_numbered::{resend, resend_streamed};
+use cmd_base::{is_folder, is_strange, open_base};
+use cmd_input::{LinkLock, folder_path, named_stamp, output_fault, text_path};
+use cmd_numbered::resend;
 use cmd_repair::check_linked;
-use cmd_status::{Fault, FileLock, Status, parse_address, parse_number, print_rest};
+use cmd_status::{Fault, FileLock, Status, parse_address, print_rest};
 use cmd_store::{push_packet, resent_name};
 use cmd_words::ResendWords;
 use disk_io::{Disk, Sink};
@@ -22,8 +21,6 @@ use echo_toss::Resend;
 use model_steps::Packet;
 use station::lock_and_read_links;
 use std::alloc::AllocError;
-use std::collections::hash_map::RandomState;
-use std::str;
 
 /// How many bytes show that a file is the packet that is to be written: the nodes of its two systems.
 const PACKET_KNOWN_BY: usize = 4;
@@ -54,10 +51,7 @@ pub(crate) fn run_resend<W: Sink, E: Sink>(
 
 fn asked_of<'a>(rt: &HostRuntime, words: &ResendWords<'a>) -> Result<Resend<'a>, Fault<'a>> {
     let to = parse_address(words.to)?;
-    let first = match words.from {
-        Some(word) => parse_number(word)?,
-        None => 0,
-    };
+    let first = first_number(words.from)?;
     let stamp = named_stamp(rt, words.at)?;
     Ok(Resend {
         area: words.area.as_bytes(),
@@ -67,7 +61,7 @@ fn asked_of<'a>(rt: &HostRuntime, words: &ResendWords<'a>) -> Result<Resend<'a>,
     })
 }
 
-// The packet, by the link file under its lock. If no seed for the hasher is available, that is a failed read.
+// The packet, by the link file under its lock.
 fn packet_of<'a, D: Disk, L: FileLock>(
     rt: &HostRuntime,
     disk: &mut D,
@@ -77,17 +71,12 @@ fn packet_of<'a, D: Disk, L: FileLock>(
 ) -> Result<Packet, Fault<'a>>
     requires { L.held lock.old ≡ None }
 {
-    let hasher = RandomState::new(rt).map_err(|_| Fault::Base(BaseFault::Read))?;
     let links = lock_and_read_links(rt.alloc(), disk, lock, words.place.links)?;
     let area = asked.area.to_ascii_uppercase(rt.alloc())?;
     check_linked(&links, &area, asked.to)?;
     check_owner(rt, disk, words.place.base, links.system())?;
-    if is_folder(rt, words.place.base) {
-        let mut messages = open_folder_reader(rt, words.place.base, 0, None)?;
-        return resend_streamed(rt.alloc(), asked, &links, words.place.base, &mut messages);
-    }
-    let base = read_file(rt, words.place.base, usize::MAX)?;
-    resend(rt.alloc(), asked, links, &base, hasher)
+    let mut messages = open_base(rt, words.place.base, 0)?;
+    resend(rt.alloc(), asked, &links, words.place.base, &mut messages)
 }
 
 /// A fault, where the base is a folder of another system.
@@ -160,10 +149,8 @@ fn put_packet<E: Sink>(
 }
 
 fn path_of(rt: &HostRuntime, folder: &str, asked: Resend<'_>) -> Result<String, AllocError> {
-    let mut path = folder_path(rt, folder)?;
     let name = resent_name(rt.alloc(), asked.to, asked.first)?;
-    path.push_str(str::from_utf8(&name).unwrap_or(""))?;
-    Ok(path)
+    file_path(rt, folder, text_path(&name))
 }
 
 // Writes it under the staging name of its system, and gives it its own.

@@ -3,24 +3,23 @@
 
 ghost use Rattle.std.specs.Prelude.{◌≢◌, IfErr};
 
+use crate::bases::first_number;
+use crate::files::file_path;
 use base_folder::MessageSource;
-use cmd_input::{
-    folder_fault, folder_path, is_folder, load_base, locked_folder, open_folder_reader,
-    output_fault, read_file,
-};
+use cmd_base::open_base;
+use cmd_input::{folder_fault, locked_folder, output_fault, read_file, text_path};
 use cmd_numbered::{
     ExportError, Exported, LastFile, MessageFile, MessageFolder, export_files, is_left,
     stored_number, tell_exported,
 };
-use cmd_status::{Fault, Status, ended, parse_number};
+use cmd_status::{Fault, Status, ended};
 use cmd_words::ExportStoredWords;
 use disk_io::Sink;
 use disk_system::{
     BY_UMASK, NewFile, OutputFault, create_file, flush_folder, parent_path, remove_left,
 };
-use std::alloc::AllocError;
 use std::fs::File;
-use std::{fs, io, str};
+use std::{fs, io};
 
 /// The word in the staging path of a message where other files have the address of a system.
 const OWN: &str = "msg";
@@ -51,8 +50,7 @@ impl<E: Sink> MessageFolder for FolderFiles<'_, '_, E> {
     ghost refuses = { λ before now status. status ≢ Good };
 
     fn make(&mut self, file: &MessageFile) -> Result<(), Status> {
-        let name = str::from_utf8(file.name.as_slice()).unwrap_or("");
-        match file_path(self.rt, self.folder, name) {
+        match file_path(self.rt, self.folder, text_path(file.name.as_slice())) {
             Ok(path) => self.make_at(path.as_str(), file),
             Err(_) => Err(self.refuse(OutputFault::Memory, "")),
         }
@@ -118,20 +116,11 @@ fn export_into<'a, E: Sink>(
     words: &ExportStoredWords<'a>,
     errors: &mut E,
 ) -> Result<(File, Exported<'a>), Fault<'a>> {
-    let first = match words.from {
-        Some(word) => parse_number(word)?,
-        None => 0,
-    };
+    let first = first_number(words.from)?;
     let folder = words.folder;
     let locked = locked_folder(rt, folder);
     let mut files = FolderFiles { rt, folder, errors };
-    if is_folder(rt, words.base) {
-        let mut messages = open_folder_reader(rt, words.base, 0, None)?;
-        let locked = locked?;
-        let exported = export_messages(words, first, &mut messages, &mut files)?;
-        return Ok((locked, exported));
-    }
-    let mut messages = load_base(rt, words.base)?;
+    let mut messages = open_base(rt, words.base, 0)?;
     let locked = locked?;
     let exported = export_messages(words, first, &mut messages, &mut files)?;
     Ok((locked, exported))
@@ -198,10 +187,4 @@ fn last_name<'a>(rt: &HostRuntime, folder: &'a str) -> Result<Option<Last>, Faul
         }
     }
     Ok(last)
-}
-
-fn file_path(rt: &HostRuntime, folder: &str, name: &str) -> Result<String, AllocError> {
-    let mut path = folder_path(rt, folder)?;
-    path.push_str(name)?;
-    Ok(path)
 }

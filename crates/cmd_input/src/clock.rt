@@ -31,8 +31,7 @@ pub fn named_serial<'a>(rt: &HostRuntime, word: &str) -> Result<(u32, bool), Fau
     if word != "auto" {
         return Ok((parse_serial(word)?, false));
     }
-    let serial = seconds(rt)? % SERIALS;
-    Ok((serial as u32, true))
+    Ok((created_now(rt)?, true))
 }
 
 /// The seconds since 1970 as a number of four bytes.

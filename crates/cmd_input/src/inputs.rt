@@ -5,15 +5,14 @@ use cmd_status::Fault;
 use disk_io::Watched;
 use disk_system::{InputFault, OutputFault, read_whole};
 use echo_addr::Items;
+use std::io;
+use std::io::ErrorKind;
 
 /// The most bytes of a nodelist, and of a packet given to `show`.
 pub const MAX_INPUT: usize = 67_108_864;
 
 /// The most bytes of a link file, a script or a posted body.
 pub const MAX_TEXT_FILE: usize = 1_048_576;
-
-/// The first bytes of every base file.
-pub const BASE_START: &[u8] = b"ECHOBAS";
 
 /// Why the file with this path was not read.
 pub fn input_fault(fault: InputFault, path: &str) -> Fault<'_> {
@@ -29,6 +28,14 @@ pub fn output_fault(fault: OutputFault, path: &str) -> Fault<'_> {
     match fault {
         OutputFault::Device => Fault::CannotUse(path),
         OutputFault::Memory => Fault::OutOfMemory,
+    }
+}
+
+/// Why the folder cannot be read.
+pub fn folder_fault<'a>(error: &io::Error, folder: &'a str) -> Fault<'a> {
+    match error.kind() {
+        ErrorKind::OutOfMemory => Fault::OutOfMemory,
+        _ => Fault::CannotUse(folder),
     }
 }
 

@@ -26,16 +26,8 @@ pub(crate) fn seconds_ahead<'a>(rt: &HostRuntime, seconds: u64) -> Result<i32, F
 fn offset_at<'a>(rt: &HostRuntime, at: Timestamp) -> Result<Offset, Fault<'a>> {
     match SystemTimeZone::read(rt) {
         Ok(zone) => offset_in(rt, &zone, at),
-        Err(error) => offset_unread(rt, &error),
-    }
-}
-
-// The offset if no time zone could be read: that of UTC if none is set, else a fault.
-fn offset_unread<'a>(rt: &HostRuntime, error: &Error) -> Result<Offset, Fault<'a>> {
-    if is_none_set(rt, error) {
-        Ok(Offset::UTC)
-    } else {
-        Err(zone_fault(error))
+        Err(error) if is_none_set(rt, &error) => Ok(Offset::UTC),
+        Err(error) => Err(zone_fault(&error)),
     }
 }
 
@@ -68,14 +60,10 @@ fn offset_by_name<'a>(
 
 fn offset_named<'a>(rt: &HostRuntime, name: &str, at: Timestamp) -> Result<Offset, Fault<'a>> {
     let path = format!(in rt.alloc(); "{ZONES}/{name}")?;
-    match disk_system::read_file(rt.alloc(), rt, path.as_str(), MAX_ZONE) {
-        Ok(bytes) => offset_of_table(rt, &bytes, at),
-        Err(_) => Err(Fault::CannotUse(ZONE)),
-    }
-}
-
-fn offset_of_table<'a>(rt: &HostRuntime, bytes: &[u8], at: Timestamp) -> Result<Offset, Fault<'a>> {
-    match Tzif::parse(rt.alloc(), None, bytes) {
+    let Ok(bytes) = disk_system::read_file(rt.alloc(), rt, path.as_str(), MAX_ZONE) else {
+        return Err(Fault::CannotUse(ZONE));
+    };
+    match Tzif::parse(rt.alloc(), None, &bytes) {
         Ok(table) => Ok(table.to_offset(at)),
         Err(error) => Err(zone_fault(&error)),
     }

@@ -2,6 +2,7 @@
 ghost use Rattle.std.specs.Prelude.{◌≡◌, ◌≤◌, None};
 ghost use Rattle.disk_io.specs.{Device.Failed, declared.disk_error.DiskError.TheVariants.Device};
 
+use crate::inputs::folder_fault;
 use crate::paths::text_path;
 use cmd_status::{Fault, FileLock, print_rest};
 use disk_io::{DiskError, Watched};
@@ -235,14 +236,6 @@ pub fn locked_folder<'a>(rt: &HostRuntime, folder: &'a str) -> Result<File, Faul
     Ok(file)
 }
 
-/// Why the folder cannot be read.
-pub fn folder_fault<'a>(error: &io::Error, folder: &'a str) -> Fault<'a> {
-    match error.kind() {
-        io::ErrorKind::OutOfMemory => Fault::OutOfMemory,
-        _ => Fault::CannotUse(folder),
-    }
-}
-
 fn tell_waiting(rt: &HostRuntime, path: &str) {
     let errors = rt.stderr();
     if errors.is_terminal() {
@@ -254,13 +247,8 @@ fn tell_waiting(rt: &HostRuntime, path: &str) {
 
 fn waiting_line(rt: &HostRuntime, path: &str) -> Result<Vec<u8>, AllocError> {
     let mut line = Vec::new(rt.alloc());
-    push_waiting(&mut line, path)?;
-    Ok(line)
-}
-
-fn push_waiting(line: &mut Vec<u8>, path: &str) -> Result<(), AllocError> {
     line.extend_from_slice(b"echonet: waiting for the lock of ")?;
-    push_word(line, path.as_bytes())?;
+    push_word(&mut line, path.as_bytes())?;
     line.push(b'\n')?;
-    Ok(())
+    Ok(line)
 }

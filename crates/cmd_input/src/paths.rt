@@ -70,21 +70,12 @@ pub fn path_names<'a>(rt: &HostRuntime, paths: &Paths<'a>) -> PathNames<'a> {
     }
 }
 
-fn given_names<'a>(rt: &HostRuntime, words: &[&'a str]) -> Result<Vec<PathName>, Fault<'a>> {
+fn given_names<'a>(rt: &HostRuntime, words: &[&str]) -> Result<Vec<PathName>, Fault<'a>> {
     let mut names = Vec::new(rt.alloc());
-    push_given(rt, words, &mut names)?;
-    Ok(names)
-}
-
-fn push_given(
-    rt: &HostRuntime,
-    words: &[&str],
-    names: &mut Vec<PathName>,
-) -> Result<(), AllocError> {
     for word in words {
         names.push(text_name(rt, *word)?)?;
     }
-    Ok(())
+    Ok(names)
 }
 
 // The names in a list: each ends in 00 if the list has this byte, else each has a line. Empty ones are skipped.
@@ -95,18 +86,13 @@ fn listed_names<'a>(rt: &HostRuntime, list: &'a str) -> Result<Vec<PathName>, Fa
 
 fn names_in(rt: &HostRuntime, list: &[u8]) -> Result<Vec<PathName>, AllocError> {
     let mut names = Vec::new(rt.alloc());
-    push_listed(rt, list, &mut names)?;
-    Ok(names)
-}
-
-fn push_listed(rt: &HostRuntime, list: &[u8], names: &mut Vec<PathName>) -> Result<(), AllocError> {
     let end = if list.contains(&NUL) { NUL } else { b'\n' };
     for path in list.split(|byte| *byte == end) {
         if !path.is_empty() {
             names.push(name_of(rt, path)?)?;
         }
     }
-    Ok(())
+    Ok(names)
 }
 
 fn name_of(rt: &HostRuntime, path: &[u8]) -> Result<PathName, AllocError> {

@@ -1,8 +1,7 @@
 //! The progress of a command, for a terminal. One second after the command began, its line appears on standard error.
 //! It is overwritten in place, and erased before anything else is printed.
 
-use base_folder::ReadingProgress;
-use cmd_status::{MessageProgress, print_rest};
+use cmd_status::print_rest;
 use disk_io::Watched;
 use std::alloc::AllocError;
 use std::cell::Cell;
@@ -119,33 +118,6 @@ fn push_over(bytes: &mut Vec<u8>, line: &str, shown: usize) -> Result<(), AllocE
     bytes.resize(width, b' ')?;
     bytes.push(b'\r')?;
     Ok(())
-}
-
-/// Reports at which message a command is, if a progress line is given.
-#[derive(Clone, Copy, Drop)]
-pub struct Messages<'p, 'r> {
-    pub progress: Option<&'p Progress<'r>>,
-}
-
-impl MessageProgress for Messages<'_, '_> {
-    fn tell(&self, place: usize, messages: usize) {
-        if let Some(progress) = self.progress {
-            if progress.is_due() {
-                progress.tell_message((place as u64).saturating_add(1), messages as u64);
-            }
-        }
-    }
-}
-
-impl ReadingProgress for Messages<'_, '_> {
-    fn tell(&self, place: usize, messages: usize) {
-        MessageProgress::tell(self, place, messages);
-    }
-}
-
-/// The percentage of `all` that `some` is.
-pub fn percentage(some: u64, all: u64) -> u128 {
-    (u128::from(some) * 100 / u128::from(all.max(1))).min(100)
 }
 
 /// Standard output or standard error, on which the progress line is erased before anything is written.

@@ -11,7 +11,7 @@ use crate::locked::{begun_again, locked_headers};
 use crate::named::{bytes_of, jam_fault, open_or_make, write_at};
 use crate::texts::{ROOM, Texts};
 use base_folder::MessageSource;
-use cmd_input::{is_folder, load_base, open_folder_reader};
+use cmd_base::open_base;
 use cmd_numbered::{JamBase, JamEnd, JamExport, JamExportError, export_jam, tell_added, tell_cuts};
 use cmd_status::{Fault, Status, ended, parse_number};
 use cmd_words::ExportJamWords;
@@ -85,13 +85,7 @@ fn jam_given<'a>(
     };
     let path = words.jam;
     let headers = locked_headers(rt, path, words.base);
-    if is_folder(rt, words.base) {
-        let mut messages = open_folder_reader(rt, words.base, 0, None)?;
-        let files = jam_files(rt, path, headers?)?;
-        let (exported, sent) = jam_under(rt, words, first, &files, &mut messages)?;
-        return Ok((files, exported, sent));
-    }
-    let mut messages = load_base(rt, words.base)?;
+    let mut messages = open_base(rt, words.base, 0)?;
     let files = jam_files(rt, path, headers?)?;
     let (exported, sent) = jam_under(rt, words, first, &files, &mut messages)?;
     Ok((files, exported, sent))

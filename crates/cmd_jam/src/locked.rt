@@ -2,7 +2,8 @@
 //! folder.
 
 use crate::named::{check_file, jam_fault, open_file, open_or_make, with_end, write_at};
-use cmd_input::{check_base, created_now, lock_file, locked_folder, output_fault};
+use cmd_base::check_base;
+use cmd_input::{created_now, lock_file, locked_folder, output_fault};
 use cmd_status::Fault;
 use disk_system::{BY_UMASK, NewFile, create_file, flush_folder, parent_path, remove_left};
 use echo_jam::new_fixed;

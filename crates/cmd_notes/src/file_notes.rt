@@ -1,7 +1,8 @@
 use crate::notes::{FaultLine, tell};
 use crate::reasons::{PathState, Reason, State, WrongLine};
 use crate::states::{Usage, state_at};
-use cmd_input::{MAX_TEXT_FILE, folder_path, is_folder, lead_to_one, path_names, read_file};
+use cmd_base::is_folder;
+use cmd_input::{MAX_TEXT_FILE, folder_path, lead_to_one, path_names, read_file};
 use cmd_show::{FaultyLine, Judged, judge};
 use cmd_status::Fault;
 use cmd_words::{Paths, Place};

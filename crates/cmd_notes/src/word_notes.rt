@@ -3,7 +3,8 @@
 use crate::notes::{FaultLine, is_there, tell};
 use crate::reasons::{LongField, Reason, WordForm, WrongWord};
 use base_folder::{BaseReader, MessageSource, fetch_message};
-use cmd_input::{is_folder, load_base, open_folder_reader, read_file};
+use cmd_base::{is_folder, open_base};
+use cmd_input::read_file;
 use cmd_status::{Fault, parse_number};
 use cmd_words::ReplyWords;
 use disk_io::Sink;
@@ -93,11 +94,7 @@ fn count_of(rt: &HostRuntime, path: &str) -> Option<u64> {
     if !is_there(rt, path) {
         return Some(0);
     }
-    if is_folder(rt, path) {
-        let messages = open_folder_reader(rt, path, u64::MAX, None).ok()?;
-        return Some(messages.count() as u64);
-    }
-    let messages = load_base(rt, path).ok()?;
+    let messages = open_base(rt, path, u64::MAX).ok()?;
     Some(messages.count() as u64)
 }
 
@@ -110,7 +107,7 @@ pub(crate) fn has_none_of(rt: &HostRuntime, path: &str, tag: &str) -> bool {
 fn none_of(rt: &HostRuntime, path: &str, tag: &str) -> Option<bool> {
     let tag = tag.as_bytes().to_ascii_uppercase(rt.alloc()).ok()?;
     if is_folder(rt, path) {
-        let mut messages = open_folder_reader(rt, path, u64::MAX, None).ok()?;
+        let mut messages = open_base(rt, path, u64::MAX).ok()?;
         return lacks_area(&mut messages, path, &tag);
     }
     none_in_file(rt, path, &tag)

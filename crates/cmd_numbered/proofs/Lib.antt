@@ -1,4 +1,3 @@
-pub mod Readings
 pub mod Gettings
 pub mod Resendings
 pub mod Addings

@@ -1,19 +1,12 @@
-use Rattle.std.proofs.Common.{◌≡◌, ◌≤◌, ◌+◌, ⊎_elim, ℕ, zero, suc, ◌<◌, ◌++◌, List, [], ◌∷◌, Option, Some, Result, ◌∙◌, refl, subst, arith, slice_get, length}
+use Rattle.std.proofs.Common.{◌≡◌, ◌≤◌, ◌+◌, ⊎_elim, ℕ, zero, suc, ◌<◌, ◌++◌, List, [], ◌∷◌, Option, Some, ◌∙◌, refl, subst, arith, slice_get, length}
 use Rattle.std.proofs.lemmas.Bool.{cases_lt}
-use Rattle.base_file.specs.Base.{Base}
-use Rattle.base_folder.{specs.Source.SourceState, proofs.Fetchings.never_read}
+use Rattle.base_folder.{specs.Source.SourceState}
 use Rattle.echo_addr.specs.declared.address.Address.{Address}
 use Rattle.echo_filed.specs.Filed.{Filed}
 use Rattle.echo_links.specs.Links.{LinkFile}
 use Rattle.echo_packet.specs.Message.{Message}
-use Rattle.model_steps.specs.declared.{packet.Packet.Packet, stamp.Stamp.Stamp}
-use Rattle.cmd_status.specs.{declared.fault.Fault.Fault, Inputs.IsBaseGiven}
 use Rattle.echo_toss.specs.Exports.{IsResentAt}
-use Rattle.cmd_numbered.specs.Resending.{AreLegibleFrom, IsMadeOf, ResendAnswers, ResendsReading, copies_at}
-
-pub of_base_file : (file : LinkFile) (stamp : Stamp) (area : List ℕ) (to : Address) (first : ℕ) (path bytes : List ℕ) (base : Base) (result : Result Packet Fault)
-    → IsBaseGiven (Some bytes) base.messages base.cursor → ResendsReading stamp (IsMadeOf file stamp area to first base) path 0 0 result → ResendAnswers file stamp area to first bytes result
-of_base_file file stamp area to first path bytes base h9 given h11 = grind (arith, never_read)
+use Rattle.cmd_numbered.specs.Resending.{AreLegibleFrom, copies_at}
 
 found_at : {X : Type 0} (xs : List X) (i : ℕ) → i < length xs → (x : X) × (slice_get xs i ≡ Some x)
 found_at [] i within = absurd (omega (arith, within))

@@ -1,5 +1,5 @@
 -- The message of a base with an id: the parts that a mail answering it takes, and whether it was posted here.
-use Rattle.std.specs.Prelude.{◌≡◌, ℕ, zero, suc, ◌&&◌, not, bytes_eq, Bool, false, List, ◌∷◌, codes, length, take, if◌then◌else◌, slice_get, Option, Some, None, is_some, Result}
+use Rattle.std.specs.Prelude.{◌≡◌, ℕ, zero, suc, ◌&&◌, not, bytes_eq, Bool, false, List, ◌∷◌, codes, length, take, if◌then◌else◌, slice_get, Option, Some, None, is_some}
 use Rattle.std.specs.{List.prefix_len, Option.option_map}
 use Rattle.base_file.specs.Base.{Base}
 use Rattle.echo_addr.specs.Entries.{is_blank}
@@ -7,8 +7,7 @@ use Rattle.echo_charset.specs.{declared.charset.Charset.Charset, declared.charse
 use Rattle.echo_filed.specs.Filed.{Filed}
 use Rattle.echo_links.specs.Links.{upper}
 use Rattle.echo_text.specs.Echo.{first_after, msgid_of}
-use Rattle.cmd_status.specs.declared.fault.Fault.{Fault}
-use Rattle.cmd_numbered.specs.{declared.finding.Answered.Answered, declared.finding.PostedWords.PostedWords, Reading.AnswersFile}
+use Rattle.cmd_numbered.specs.{declared.finding.Answered.Answered, declared.finding.PostedWords.PostedWords}
 
 abbrev pub is_id_of : List ℕ → Option (List ℕ) → Bool
 is_id_of id None = false
@@ -48,9 +47,6 @@ answered_as m = record { tag = m.echo.tag; charset = charset_of m }
 abbrev pub IsAnswered : List ℕ → Base → Option Answered → Type 0
 IsAnswered id base found = found ≡ option_map answered_as (last_with id base.messages (length base.messages))
 
-abbrev pub AnsweredAnswers : List ℕ → List ℕ → Result (Option Answered) Fault → Type 0
-AnsweredAnswers id file answer = AnswersFile (IsAnswered id) file answer
-
 -- Whether a message was posted here in this area, with these names and this subject.
 abbrev pub has_words : List ℕ → PostedWords → Filed → Bool
 has_words tag words m =
@@ -64,6 +60,3 @@ is_found_as tag words (Some m) = has_words tag words m
 -- The answer says whether the last message of a base with the id was posted here under these words.
 abbrev pub IsPostedAs : PostedWords → Base → Bool → Type 0
 IsPostedAs words base posted = posted ≡ is_found_as (upper words.tag.now) words (last_with words.id.now base.messages (length base.messages))
-
-abbrev pub PostedAnswers : PostedWords → List ℕ → Result Bool Fault → Type 0
-PostedAnswers words file answer = AnswersFile (IsPostedAs words) file answer

@@ -8,16 +8,7 @@ use Rattle.echo_packet.specs.Message.{Message}
 use Rattle.echo_links.specs.Links.{LinkFile, upper}
 use Rattle.model_steps.specs.{declared.fault.ScanFault.TheVariants.BadStamp, declared.packet.Packet.Packet, declared.stamp.Stamp.Stamp, Resending.is_resent, Resending.resent_packet, Scanning.copy_to}
 use Rattle.model_steps.specs.Stamps.{is_stamp}
-use Rattle.cmd_status.specs.{declared.fault.Fault.Fault, declared.fault.Fault.TheVariants.Scan, Ended.IsOutOfMemory, Inputs.IsBaseFault, Inputs.IsBaseGiven}
-
--- The base file has no fault, and this is the packet made again from its messages. The requested area may have letters of
--- either case.
-pub record IsMadeAgain (file : LinkFile) (stamp : Stamp) (area : List ℕ) (to : Address) (first : ℕ) (base : List ℕ) (packet : Packet) : Type 0 where
-  pub messages : List Filed
-  pub cursor : ℕ
-  pub given : IsBaseGiven (Some base) messages cursor
-  pub moment : is_stamp stamp ≡ true
-  pub packet_is : packet ≡ resent_packet file stamp (upper area) to first messages cursor
+use Rattle.cmd_status.specs.{declared.fault.Fault.Fault, declared.fault.Fault.TheVariants.Scan}
 
 -- The packet made again from the messages of a base.
 pub record IsMadeOf (file : LinkFile) (stamp : Stamp) (area : List ℕ) (to : Address) (first : ℕ) (base : Base) (packet : Packet) : Type 0 where
@@ -32,11 +23,6 @@ ResendsReading stamp IsRight path before now (Err fault) = IsUnread path before 
 abbrev pub copies_at : LinkFile → List ℕ → Address → Option Filed → List Message
 copies_at file area to None = []
 copies_at file area to (Some m) = map (copy_to file to) (filter (is_resent file area to) (m ∷ []))
-
-abbrev pub ResendAnswers : LinkFile → Stamp → List ℕ → Address → ℕ → List ℕ → Result Packet Fault → Type 0
-ResendAnswers file stamp area to first base (Ok packet) = IsMadeAgain file stamp area to first base packet
-ResendAnswers file stamp area to first base (Err fault) =
-    IsOutOfMemory fault ⊎ (IsBaseFault (Some base) fault ⊎ ((fault ≡ Scan BadStamp) × (is_stamp stamp ≡ false)))
 
 -- All messages from one number up to another are no damage.
 abbrev pub AreLegibleFrom : SourceState → ℕ → ℕ → Type 0

@@ -36,7 +36,7 @@ pub struct JamBase<'a> {
 
 /// The bytes to add to the headers and the index of a JAM base, and the numbers that its messages have in their base.
 /// `sent` bytes of texts were sent. The texts of `jam` are those of the last message, which are among them.
-#[derive(Debug, Drop)]
+#[derive(Drop)]
 pub struct Adding {
     pub jam: Jam,
     pub sent: u64,
@@ -44,7 +44,7 @@ pub struct Adding {
 }
 
 /// `adding`, and the number of the message behind all that were looked at.
-#[derive(Debug, Drop)]
+#[derive(Drop)]
 pub struct JamExport {
     pub adding: Adding,
     pub end: u64,

@@ -5,10 +5,10 @@ ghost use Rattle.base_folder.specs.Source.{AreLegible};
 ghost use Rattle.echo_addr.specs.Entries.{is_blank};
 ghost use Rattle.echo_filed.specs.Filed.{Filed};
 ghost use Rattle.echo_text.specs.Ids.{id_of};
-ghost use Rattle.cmd_numbered.specs.Finding.{AnsweredAnswers, IsAnswered, IsPostedAs, PostedAnswers, answered_as, charset_of, has_id, has_words, is_found_as, label_name, last_at};
+ghost use Rattle.cmd_numbered.specs.Finding.{IsAnswered, IsPostedAs, answered_as, charset_of, has_id, has_words, is_found_as, label_name, last_at};
 ghost use Rattle.cmd_numbered.specs.Reading.{AnswersReading};
 
-use base_folder::{BaseReader, MessageSource, fetch_message};
+use base_folder::{MessageSource, fetch_message};
 use cmd_status::Fault;
 use echo_addr::{Address, Items, is_blank};
 use echo_charset::Charset;
@@ -16,7 +16,6 @@ use echo_filed::Filed;
 use echo_stored::first_value;
 use echo_text::{MsgId, one_id_is_spelled, written_id_read_back};
 use std::alloc::{AllocError, Global};
-use std::hash::BuildHasher;
 
 /// What a mail takes from the message that it answers: its area, and the charset of its CHRS line, else CP437. `None` is
 /// a charset that the program does not know.
@@ -27,20 +26,7 @@ pub struct Answered {
 }
 
 /// What the last message of the base with this id, in any area, gives to a mail that answers it.
-pub fn find_answered<'a, S: BuildHasher + Drop>(
-    alloc: Global,
-    id: &[u8],
-    base: &[u8],
-    hasher: S,
-) -> Result<Option<Answered>, Fault<'a>>
-    ensures { AnsweredAnswers id.now base.now result }
-{
-    let mut messages = BaseReader::read(alloc, base, hasher)?;
-    find_answered_streamed(alloc, id, "", &mut messages)
-}
-
-/// Searches messages that are read one by one, of the base with this path.
-pub fn find_answered_streamed<'a, M: MessageSource>(
+pub fn find_answered<'a, M: MessageSource>(
     alloc: Global,
     id: &[u8],
     path: &'a str,
@@ -129,20 +115,7 @@ pub struct PostedWords<'a> {
 }
 
 /// Whether the last message of the base with this id was posted here under these words.
-pub fn is_posted<'a, S: BuildHasher + Drop>(
-    alloc: Global,
-    words: PostedWords<'_>,
-    base: &[u8],
-    hasher: S,
-) -> Result<bool, Fault<'a>>
-    ensures { PostedAnswers words.entry base.now result }
-{
-    let mut messages = BaseReader::read(alloc, base, hasher)?;
-    is_posted_streamed(alloc, words, "", &mut messages)
-}
-
-/// Judges messages that are read one by one, of the base with this path.
-pub fn is_posted_streamed<'a, M: MessageSource>(
+pub fn is_posted<'a, M: MessageSource>(
     alloc: Global,
     words: PostedWords<'_>,
     path: &'a str,

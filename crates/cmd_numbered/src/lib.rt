@@ -13,13 +13,10 @@ mod resending;
 mod telling;
 
 pub use adding::{Adding, JamBase, JamEnd, JamExport, export_jam};
-pub use finding::{
-    Answered, PostedWords, find_answered, find_answered_streamed, is_posted, is_posted_streamed,
-    own_serial,
-};
+pub use finding::{Answered, PostedWords, find_answered, is_posted, own_serial};
 pub use folder::{LastFile, MessageFile, MessageFolder};
 pub use jam_export_error::JamExportError;
 pub use names::{is_left, stored_number};
 pub use numbering::{ExportError, Exported, export_files};
-pub use resending::{resend, resend_streamed};
+pub use resending::resend;
 pub use telling::{refuse_message, tell_added, tell_cuts, tell_exported, tell_refused};

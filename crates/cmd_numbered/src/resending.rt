@@ -2,9 +2,9 @@ ghost use Rattle.std.specs.Prelude.{◌≡◌, ◌++◌, IfErr, IfOk, OnOk, opti
 ghost use Rattle.base_file.specs.Base.{Base};
 ghost use Rattle.base_folder.specs.Fetching.{IsUnread};
 ghost use Rattle.model_steps.specs.Resending.{resent};
-ghost use Rattle.cmd_numbered.specs.Resending.{AreLegibleToCursor, IsMadeOf, ResendAnswers, ResendsReading, copies_at};
+ghost use Rattle.cmd_numbered.specs.Resending.{AreLegibleToCursor, IsMadeOf, ResendsReading, copies_at};
 
-use base_folder::{BaseReader, MessageSource, fetch_message};
+use base_folder::{MessageSource, fetch_message};
 use cmd_status::Fault;
 use echo_addr::Items;
 use echo_filed::Filed;
@@ -13,25 +13,10 @@ use echo_packet::PackedCopy;
 use echo_toss::{Resend, packet_header, push_resent};
 use model_steps::{Packet, ScanFault, is_stamp};
 use std::alloc::{AllocError, Global};
-use std::hash::BuildHasher;
 
 /// `resend --area TAG --to ADDRESS [--from I] --at STAMP LINKS BASE DIR`: the packet that is made again, perhaps without
 /// messages. Letters of the area may be of either case.
-pub fn resend<'a, S: BuildHasher + Drop>(
-    alloc: Global,
-    asked: Resend<'_>,
-    links: LinkFile,
-    base: &[u8],
-    hasher: S,
-) -> Result<Packet, Fault<'a>>
-    ensures { ResendAnswers links asked.entry.stamp asked.entry.area.now asked.entry.to asked.entry.first base.now result }
-{
-    let mut messages = BaseReader::read(alloc, base, hasher)?;
-    resend_streamed(alloc, asked, &links, "", &mut messages)
-}
-
-/// Takes messages that are read one by one, of the base with this path.
-pub fn resend_streamed<'a, M: MessageSource>(
+pub fn resend<'a, M: MessageSource>(
     alloc: Global,
     asked: Resend<'_>,
     links: &LinkFile,

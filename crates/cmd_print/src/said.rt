@@ -2,7 +2,7 @@ ghost use Rattle.std.specs.Prelude.{◌≡◌, ◌++◌, option_copied, OnOk};
 ghost use Rattle.cmd_print.specs.Said.{area_line, counts_line, echo_lines, found_line, found_lines};
 
 use echo_charset::{push_escaped, written};
-use echo_text::EchoView;
+use echo_text::{EchoView, KeptView};
 use std::alloc::AllocError;
 use std::io::Write;
 
@@ -11,7 +11,7 @@ pub fn push_echo(lines: &mut Vec<u8>, echo: &EchoView, dropped: usize) -> Result
     ensures { OnOk result (lines.new.items ≡ lines.old.items ++ echo_lines echo.now dropped) }
 {
     push_area(lines, echo.tag.as_slice())?;
-    push_found_lines(lines, echo)?;
+    push_found_lines(lines, &echo.kept)?;
     push_counts(lines, echo.seen.len(), echo.path.len(), dropped)
 }
 
@@ -24,13 +24,13 @@ fn push_area(lines: &mut Vec<u8>, tag: &[u8]) -> Result<(), AllocError>
     Ok(())
 }
 
-fn push_found_lines(lines: &mut Vec<u8>, echo: &EchoView) -> Result<(), AllocError>
-    ensures { OnOk result (lines.new.items ≡ lines.old.items ++ found_lines echo.now.kept) }
+fn push_found_lines(lines: &mut Vec<u8>, kept: &KeptView) -> Result<(), AllocError>
+    ensures { OnOk result (lines.new.items ≡ lines.old.items ++ found_lines kept.now) }
 {
-    push_found(lines, b"msgid", echo.msgid())?;
-    push_found(lines, b"reply", echo.reply())?;
-    push_found(lines, b"tear", echo.tear())?;
-    push_found(lines, b"origin", echo.origin())?;
+    push_found(lines, b"msgid", kept.msgid())?;
+    push_found(lines, b"reply", kept.reply())?;
+    push_found(lines, b"tear", kept.tear())?;
+    push_found(lines, b"origin", kept.origin())?;
     Ok(())
 }
 

@@ -1,7 +1,6 @@
 pub mod Searching
 pub mod Cutting
 pub mod Readings
-pub mod IdWords
 pub mod Unescaped
 pub mod RightLists
 pub mod Gatherings
@@ -9,3 +8,5 @@ pub mod Printings
 pub mod Listed
 pub mod Sendings
 pub mod Rests
+pub mod Printed
+pub mod AreaIds

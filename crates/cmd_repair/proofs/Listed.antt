@@ -6,8 +6,8 @@ use Rattle.echo_charset.specs.Escaped.{escaped_line}
 use Rattle.echo_links.specs.Links.{upper}
 use Rattle.cmd_status.specs.{Devices.Output, Ended.AnswersInPieces, Ended.IsBegun, Ended.IsDone, Ended.IsOutOfMemory, Ended.PassesAll, Lines.PassesOn, Lines.WritesFront, declared.fault.Fault.Fault, declared.status.Status.TheVariants.Good}
 use Rattle.cmd_status.proofs.Lines.{alone, begun_after, front_more, none_passed, passed_more, sent_after}
-use Rattle.cmd_repair.{proofs.Searching.sorted_bytes, specs.IdsListed.{AreIdsListed, Gathers, area_ids, area_messages, ids_text}}
-use Rattle.cmd_repair.specs.Words.{area_words, end_words}
+use Rattle.cmd_repair.{proofs.Searching.sorted_bytes, specs.IdsListed.{AreIdsListed, Gathers, area_ids, area_messages}}
+use Rattle.cmd_repair.specs.Words.{area_words, end_words, ids_text}
 
 abbrev pub printed_id : Bor (List ℕ) → List ℕ
 printed_id id = escaped_line (codes "id") id.now

@@ -1,6 +1,6 @@
 -- A packet of a repair is that of the model.
 use Rattle.std.proofs.Common.{◌≡◌, ℕ, suc, ◌+◌, Bool, true, false, List, [], ◌∷◌, ◌++◌, length, map, Option, Some, None, inl, inr, refl, sym, ap, subst, ◌∙◌}
-use Rattle.std.{proofs.lemmas.Bool.cases_Bool, specs.{Prelude.{◌&&◌, ◌||◌, not, bytes_eq, filter}, Io.KnownBytes.Appends, List.{AllByRecursion, list_any}}}
+use Rattle.std.{proofs.lemmas.{Bool.cases_Bool, List.Sorted.list_any-IsPermutation}, specs.{Prelude.{◌&&◌, ◌||◌, not, bytes_eq, filter}, Io.KnownBytes.Appends, List.{AllByRecursion, list_any}}}
 use Rattle.base_file.specs.Base.{Base}
 use Rattle.echo_addr.specs.declared.address.Address.{Address}
 use Rattle.echo_charset.specs.Escaped.{escaped}
@@ -13,8 +13,8 @@ use Rattle.model_graph.specs.Walk.{Among}
 use Rattle.model_run.proofs.Lists.{filter-no, filter-yes}
 use Rattle.model_run.specs.Repair as model
 use Rattle.model_steps.specs.{Resending.is_whole_in, Scanning.copy_to, Scanning.header_to, declared.stamp.Stamp.Stamp}
-use Rattle.cmd_repair.specs.{IdList.IsIdList, IdList.id_line, IdList.id_words, Ids.IsId, Repair.SendsPacket, Repair.is_held, Repair.is_named, Repair.is_sent, Rest.HaveByteIds, Rest.SendsRest, Words.area_words, Words.end_words, Words.id_word, Words.is_id_line}
-use Rattle.cmd_repair.proofs.{IdWords.taken, Unescaped.{AreSmall, same-test, text-small}}
+use Rattle.cmd_repair.specs.{IdList.IsIdList, IdList.ListsIds, IdList.id_line, IdList.id_words, Ids.IsId, Repair.SendsPacket, Repair.is_held, Repair.is_named, Repair.is_sent, Rest.HaveByteIds, Rest.SendsRest, Words.area_words, Words.end_words, Words.id_word, Words.is_id_line}
+use Rattle.cmd_repair.proofs.Unescaped.{AreSmall, id-small, same-test, taken}
 
 bytes-small : (bs : List ℕ) → AreBytes bs → AreSmall bs
 bytes-small [] h = tt
@@ -44,17 +44,18 @@ listed-words area ids n without all =
 any-form : (id : List ℕ) → AreSmall id → (ids : List (List ℕ)) → AllByRecursion IsId ids → list_any (bytes_eq (escaped id)) (map escaped ids) ≡ list_any (bytes_eq id) ids
 any-form id small [] all = refl
 any-form id small (x ∷ ids) all =
-    ap (λ (b : Bool). b || list_any (bytes_eq (escaped id)) (map escaped ids)) (same-test id x small (text-small x all.0.bytes))
+    ap (λ (b : Bool). b || list_any (bytes_eq (escaped id)) (map escaped ids)) (same-test id x small (id-small x all.0))
     ∙ ap (λ (b : Bool). bytes_eq id x || b) (any-form id small ids all.1)
 
-named-same : (area list : List ℕ) (words : List (List ℕ)) (is : IsIdList area list words) (o : Option (List ℕ)) → ((id : List ℕ) → o ≡ Some id → AreBytes id) → is_named words o ≡ model.is_named is.right.ids o
-named-same area list words is None small = refl
-named-same area list words is (Some id) small =
-    let right = is.right in
+named-same : (area list : List ℕ) (words ids : List (List ℕ)) → ListsIds area list ids → IsIdList area list words → (o : Option (List ℕ)) → ((id : List ℕ) → o ≡ Some id → AreBytes id) → is_named words o ≡ model.is_named ids o
+named-same area list words ids lists is None small = refl
+named-same area list words ids lists is (Some id) small =
+    let right = lists.right in
     is.members (escaped id)
     ∙ ap (λ (ls : List (List ℕ)). list_any (bytes_eq (escaped id)) (id_words ls)) right.whole
     ∙ ap (list_any (bytes_eq (escaped id))) (listed-words area right.ids (length right.ids + right.without) right.without right.are_ids)
     ∙ any-form id (bytes-small id (small id refl)) right.ids right.are_ids
+    ∙ sym (list_any-IsPermutation (bytes_eq id) ids right.ids lists.same)
 
 none-named : (o : Option (List ℕ)) → false ≡ model.is_named [] o
 none-named None = refl
@@ -72,7 +73,7 @@ module _ (file : LinkFile) (stamp : Stamp) (area : List ℕ) (to : Address) (bas
   pub all-rest : SendsPacket file stamp area to 0 None base old new counted → SendsRest file stamp area to [] base old new
   all-rest sends = sent-rest None [] (λ m i. none-named (msgid_of m.echo.kept)) sends
 
-  pub listed-rest : (list : List ℕ) (words : List (List ℕ)) (is : IsIdList area list words) → HaveByteIds base.messages
-      → SendsPacket file stamp area to 0 (Some words) base old new counted → SendsRest file stamp area to is.right.ids base old new
-  listed-rest list words is small sends =
-      sent-rest (Some words) is.right.ids (λ m i. named-same area list words is (msgid_of m.echo.kept) (λ id e. small m i id e)) sends
+  pub listed-rest : (list : List ℕ) (words ids : List (List ℕ)) → ListsIds area list ids → IsIdList area list words → HaveByteIds base.messages
+      → SendsPacket file stamp area to 0 (Some words) base old new counted → SendsRest file stamp area to ids base old new
+  listed-rest list words ids lists is small sends =
+      sent-rest (Some words) ids (λ m i. named-same area list words ids lists is (msgid_of m.echo.kept) (λ id e. small m i id e)) sends

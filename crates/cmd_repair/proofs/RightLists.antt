@@ -3,9 +3,9 @@ use Rattle.std.proofs.Common.{◌≡◌, ℕ, zero, suc, ◌+◌, ◌-◌, ◌<�
 use Rattle.std.proofs.lemmas.{Bool.cases_Bool, Bool.cond-false, Bool.cond-true, Bool.eq-eqb, Bool.leb-true, Fmt.decimal-digits_of, Fmt.decimal_digit, Int.Digits.all_below_base_digits_of, Int.Digits.number_after_ge, Int.Digits.number_digits_of, List.Folds.prefix_len-append, List.take-append-drop}
 use Rattle.std.{proofs.Math.Seq.take-append_seam, specs.Prelude.{◌==◌, ◌&&◌, ◌^◌, ◌*◌, nat_le, nat_eq, bytes_eq, codes, decimal, if◌then◌else◌}}
 use Rattle.std.specs.{Cmp.Lexicographic.bytes_decides, Int.Digits.AllBelowBase, Int.Digits.digits_of, Int.Digits.number_from_digits_after, List.AllByRecursion, List.fold, List.prefix_len, List.starts_with}
-use Rattle.cmd_repair.{specs.{Ids.IsId, declared.reading.Stage.{Stage, TheVariants.{Start, Ids, Ended, Wrong}}}, proofs.IdWords.{both, given, taken}}
+use Rattle.cmd_repair.{specs.{Ids.{IsId, is_id_word}, declared.reading.Stage.{Stage, TheVariants.{Start, Ids, Ended, Wrong}}}, proofs.Unescaped.{both, given, taken}}
 use Rattle.cmd_repair.specs.IdList.{IsPrintedList, id_line, is_wrong, stage_after, wrong_line}
-use Rattle.cmd_repair.specs.Words.{area_words, digits_number, end_words, front_digits, id_word, is_digit, is_end_line, is_id_line, is_id_word, messages_in, most_messages, with_digit}
+use Rattle.cmd_repair.specs.Words.{area_words, digits_number, end_words, front_digits, id_word, is_digit, is_end_line, is_id_line, messages_in, most_messages, with_digit}
 
 -- ---- the number in the last line
 

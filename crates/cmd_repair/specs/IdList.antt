@@ -1,6 +1,6 @@
 -- A list of ids that is read: its first wrong line, and the words of its ids.
 use Rattle.std.specs.Prelude.{◌≡◌, ℕ, ◌+◌, ◌-◌, Bool, true, false, List, [], ◌∷◌, ◌++◌, ◌≤◌, codes, length, map, filter, if◌then◌else◌, bytes_eq, Option, Some, None, Result, Ok, Err, ◌⊎◌}
-use Rattle.std.specs.List.{AllByRecursion, list_any}
+use Rattle.std.specs.List.{AllByRecursion, Sorted.IsPermutation, list_any}
 use Rattle.echo_charset.specs.Escaped.{escaped}
 use Rattle.echo_links.specs.LinkLines.{file_lines}
 use Rattle.cmd_status.specs.{declared.fault.Fault.Fault, declared.fault.Fault.TheVariants.ListLine, Ended.IsOutOfMemory}
@@ -45,6 +45,11 @@ pub record IsPrintedList (area : List ℕ) (lines : List (List ℕ)) : Type 0 wh
   pub are_ids : AllByRecursion IsId ids
   pub few : length ids + without ≤ most_messages
   pub whole : lines ≡ area_words area ∷ (map id_line ids ++ end_words (length ids + without) without ∷ [])
+
+-- The bytes are a list of the area with just these ids, in some order.
+pub record ListsIds (area bytes : List ℕ) (ids : List (List ℕ)) : Type 0 where
+  pub right : IsPrintedList area (file_lines bytes)
+  pub same : IsPermutation ids right.ids
 
 -- The bytes are a list of the area that has exactly these words.
 pub record IsIdList (area bytes : List ℕ) (words : List (List ℕ)) : Type 0 where

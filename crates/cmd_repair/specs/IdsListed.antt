@@ -1,12 +1,11 @@
 -- What `list --ids` prints.
-use Rattle.std.specs.Prelude.{◌≡◌, ℕ, ◌-◌, Bool, List, [], ◌∷◌, ◌++◌, codes, length, map, filter, bytes_eq, Option, Some, None}
+use Rattle.std.specs.Prelude.{◌≡◌, ℕ, Bool, List, [], ◌∷◌, length, map, filter, bytes_eq, Option, Some, None}
 use Rattle.std.specs.{Cmp.Lexicographic.slice_cmp, List.filter_map, List.flat_map, List.Sorted.IsPermutation, List.Sorted.IsSorted, Ordering.nat_cmp}
 use Rattle.base_file.specs.Base.{Base}
-use Rattle.echo_charset.specs.Escaped.{escaped_line}
 use Rattle.echo_filed.specs.Filed.{Filed}
 use Rattle.echo_text.specs.Echo.{msgid_of}
 use Rattle.cmd_status.specs.declared.status.Status.{Status, TheVariants.Good}
-use Rattle.cmd_repair.specs.Words.{area_words, end_words}
+use Rattle.cmd_repair.specs.Words.{ids_text}
 
 abbrev pub is_in : List ℕ → Filed → Bool
 is_in area m = bytes_eq m.echo.tag area
@@ -17,12 +16,6 @@ area_messages area base = filter (is_in area) base
 
 abbrev pub area_ids : List ℕ → List Filed → List (List ℕ)
 area_ids area base = filter_map (λ m. msgid_of m.echo.kept) (area_messages area base)
-
--- The lines of ids of an area with this many messages.
-abbrev pub ids_text : List ℕ → ℕ → List (List ℕ) → List ℕ
-ids_text area messages ids =
-    (area_words area ++ codes "\n")
-    ++ (flat_map (escaped_line (codes "id")) ids ++ (end_words messages (messages - length ids) ++ codes "\n"))
 
 -- These are the lines of the ids of the area, ascending by their bytes.
 pub record AreIdsListed (area : List ℕ) (base : Base) (lines : List ℕ) (status : Status) : Type 0 where

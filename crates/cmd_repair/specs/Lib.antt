@@ -1,5 +1,5 @@
-pub mod Words
 pub mod Ids
+pub mod Words
 pub mod IdList
 pub mod IdsListed
 pub mod Repair

@@ -1,12 +1,16 @@
 //! Laws about lists of ids. Each is the contract of a function that does nothing.
-ghost use Rattle.std.specs.Prelude.{◌≡◌, ◌↔◌, List, [], None, Option, Some, true, ℕ};
-ghost use Rattle.base_file.specs.Base.{Base};
+ghost use Rattle.std.specs.Prelude.{◌≡◌, ◌≤◌, ◌↔◌, List, [], None, Option, Some, length, true, ℕ};
+ghost use Rattle.base_file.specs.Base.{Base, IsBase, is_known};
+ghost use Rattle.cmd_status.specs.declared.status.Status.{Status};
 ghost use Rattle.echo_addr.specs.declared.address.Address.{Address};
+ghost use Rattle.echo_filed.specs.declared.key.Key.TheVariants.{ById};
 ghost use Rattle.echo_links.specs.Links.{LinkFile};
 ghost use Rattle.echo_toss.specs.declared.counting.CountedPacket.{CountedPacket};
+ghost use Rattle.echo_text.specs.Lines.{is_tag};
+ghost use Rattle.model_run.specs.Repair.{is_named};
 ghost use Rattle.model_steps.specs.declared.stamp.Stamp.{Stamp};
-ghost use Rattle.cmd_repair.specs.{IdList.{IsIdList, IsPrintedList, wrong_line}, Ids.IsWordOfId, Words.is_id_word, declared.reading.Stage.TheVariants.Start};
-ghost use Rattle.cmd_repair.specs.{Repair.SendsPacket, Rest.HaveByteIds, Rest.SendsRest};
+ghost use Rattle.cmd_repair.specs.{IdList.{IsIdList, IsPrintedList, ListsIds, wrong_line}, Ids.{IsWordOfId, is_id_word}, Words.most_messages, declared.reading.Stage.TheVariants.Start};
+ghost use Rattle.cmd_repair.specs.{IdsListed.{AreIdsListed, area_ids, area_messages}, Repair.SendsPacket, Rest.HaveByteIds, Rest.SendsRest};
 
 /// A list has no wrong line exactly if its lines are those of an area and its ids, in any order and perhaps twice.
 pub fn right_lists_are_printed_ones()
@@ -23,6 +27,14 @@ pub fn repairs_send_the_rest()
     ensures all { (file : LinkFile) (stamp : Stamp) (area : List ℕ) (to : Address) (base : Base) (old new : Option (List ℕ)) (counted : CountedPacket)
         → SendsPacket file stamp area to 0 None base old new counted → SendsRest file stamp area to [] base old new }
     ensures listed { (file : LinkFile) (stamp : Stamp) (area : List ℕ) (to : Address) (base : Base) (old new : Option (List ℕ)) (counted : CountedPacket)
-        (list : List ℕ) (words : List (List ℕ)) (is : IsIdList area list words) → HaveByteIds base.messages
-        → SendsPacket file stamp area to 0 (Some words) base old new counted → SendsRest file stamp area to is.right.ids base old new }
+        (list : List ℕ) (words ids : List (List ℕ)) → ListsIds area list ids → IsIdList area list words → HaveByteIds base.messages
+        → SendsPacket file stamp area to 0 (Some words) base old new counted → SendsRest file stamp area to ids base old new }
+{}
+
+/// What `list_ids` prints of a base is a list that is taken. It names just the ids of the area's messages, which are
+/// those that the base knows.
+pub fn printed_lists_name_what_a_base_knows()
+    ensures lists { (area list : List ℕ) (base : Base) (status : Status) → is_tag area ≡ true → IsBase base.messages base.cursor → HaveByteIds base.messages
+        → length (area_messages area base.messages) ≤ most_messages → AreIdsListed area base list status → ListsIds area list (area_ids area base.messages) }
+    ensures knows { (area id : List ℕ) (base : Base) → is_named (area_ids area base.messages) (Some id) ≡ is_known base.messages (ById area id) }
 {}

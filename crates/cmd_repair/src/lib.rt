@@ -14,7 +14,10 @@ mod sending;
 mod words;
 
 pub use known::KnownIds;
-pub use laws::{repairs_send_the_rest, right_lists_are_printed_ones, words_are_those_of_ids};
+pub use laws::{
+    printed_lists_name_what_a_base_knows, repairs_send_the_rest, right_lists_are_printed_ones,
+    words_are_those_of_ids,
+};
 pub use linking::check_linked;
 pub use listing::list_ids;
 pub use reading::read_ids;

@@ -1,7 +1,7 @@
 //! A list of ids is read, as `list --ids` prints it.
 ghost use Rattle.std.specs.Prelude.{◌≡◌, ◌++◌, ◌∷◌, [], IfOk, List, OnOk, ℕ, map};
 ghost use Rattle.cmd_repair.specs.IdList.{ReadsIds, id_words, is_wrong, stage_after};
-ghost use Rattle.cmd_repair.specs.Words as words;
+ghost use Rattle.cmd_repair.specs.Words.{area_words, is_id_line};
 
 use crate::known::KnownIds;
 use crate::words::{id_word, is_end_line, is_id_line, push_area};
@@ -35,11 +35,13 @@ pub fn read_ids<'a, 'b>(
     let mut stage = Stage::Start;
     'lines: while !rest.is_empty() {
         let (line, after) = split_line(rest);
-        stage = stage_after(alloc, &first, number.saturating_sub(2), stage, line)?;
+        let is_id = is_id_line(alloc, line)?;
+        let ids = number.saturating_sub(2);
+        stage = stage_after(alloc, &first, ids, stage, line, is_id)?;
         if is_wrong(stage) {
             return Err(Fault::ListLine(number));
         }
-        take_word(&mut words, line)?;
+        take_word(&mut words, line, is_id)?;
         number = number.checked_add(1).ok_or(AllocError)?;
         rest = after;
     }
@@ -49,10 +51,11 @@ pub fn read_ids<'a, 'b>(
     }
 }
 
-fn take_word<'a>(words: &mut Vec<&'a [u8]>, line: &'a [u8]) -> Result<(), AllocError>
+fn take_word<'a>(words: &mut Vec<&'a [u8]>, line: &'a [u8], is_id: bool) -> Result<(), AllocError>
+    requires { is_id ≡ is_id_line line.now }
     ensures { OnOk result (map (λ word. word.now) words.new.items ≡ map (λ word. word.now) words.old.items ++ id_words (line.now ∷ [])) }
 {
-    if is_id_line(line) {
+    if is_id {
         words.push(id_word(line))?;
     }
     Ok(())
@@ -73,12 +76,14 @@ fn stage_after(
     ids: u64,
     stage: Stage,
     line: &[u8],
+    is_id: bool,
 ) -> Result<Stage, AllocError>
-    ensures { (area : List ℕ) → first.now ≡ words.area_words area → IfOk result (λ next. next ≡ stage_after area ids stage line.now) }
+    requires { is_id ≡ is_id_line line.now }
+    ensures { (area : List ℕ) → first.now ≡ area_words area → IfOk result (λ next. next ≡ stage_after area ids stage line.now) }
 {
     match stage {
         Stage::Start if first == line => Ok(Stage::Ids),
-        Stage::Ids if is_id_line(line) => Ok(Stage::Ids),
+        Stage::Ids if is_id => Ok(Stage::Ids),
         Stage::Ids if is_end_line(alloc, ids, line)? => Ok(Stage::Ended),
         _ => Ok(Stage::Wrong),
     }

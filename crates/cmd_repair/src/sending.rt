@@ -1,7 +1,6 @@
 //! A packet of all messages of an area for one link: it is sent piece by piece.
 ghost use Rattle.std.specs.Prelude.{◌≡◌, ◌++◌, ◌∷◌, [], IfErr, IfOk, List, ℕ, OnOk, drop, option_copied};
 ghost use Rattle.base_file.specs.Base.{Base};
-ghost use Rattle.echo_charset.specs.Escaped.{escaped, escaped_line};
 ghost use Rattle.echo_packet.specs.{Header.header_bytes, Message.message_bytes, Message.messages_bytes};
 ghost use Rattle.echo_links.specs.Links.{upper};
 ghost use Rattle.model_steps.specs.Scanning.{copy_to, header_to};
@@ -10,11 +9,12 @@ ghost use Rattle.cmd_repair.specs.Repair.{AreLegibleFrom, IsStopped, IsUndone, I
 
 use crate::known::KnownIds;
 use crate::send_fault::SendFault;
+use crate::words::{word_in, word_line};
 use base_folder::{MessageSource, fetch_message, start_number};
 use cmd_status::{Fault, flush_piece};
 use disk_io::{Sink, Watched, send};
 use echo_addr::Address;
-use echo_charset::{push_escaped, written};
+use echo_charset::written;
 use echo_filed::Filed;
 use echo_links::LinkFile;
 use echo_packet::{send_header, send_terminator};
@@ -172,23 +172,6 @@ fn is_named(alloc: Global, held: &KnownIds<'_>, id: Option<&[u8]>) -> Result<boo
     match id {
         Some(id) => Ok(held.has(word_in(&word_line(alloc, id)?))),
         None => Ok(false),
-    }
-}
-
-fn word_line(alloc: Global, id: &[u8]) -> Result<Vec<u8>, AllocError>
-    ensures { IfOk result (λ line. line.items ≡ escaped_line [] id.now) }
-{
-    let mut line = Vec::new(alloc);
-    push_escaped(&mut line, b"", id)?;
-    Ok(line)
-}
-
-fn word_in(line: &[u8]) -> &[u8]
-    ensures { (id : List ℕ) → line.now ≡ escaped_line [] id → result.now ≡ escaped id }
-{
-    match line {
-        [_, word @ .., _] => word,
-        _ => line,
     }
 }
 

@@ -1,16 +1,16 @@
 //! The lines of a list of ids: they are judged here, and written.
-ghost use Rattle.std.specs.Prelude.{◌≡◌, ◌++◌, ◌<◌, ◌≤◌, IfOk, OnOk, length, take_while};
+ghost use Rattle.std.specs.{Prelude.{◌≡◌, ◌++◌, ◌≤◌, [], IfOk, List, OnOk, ℕ, length, take_while}, List.{cons_option, list_all}};
+ghost use Rattle.echo_charset.specs.Escaped.{escaped, escaped_line};
+ghost use Rattle.cmd_repair.specs.Ids as ids;
 ghost use Rattle.cmd_repair.specs.Words as words;
 
-use echo_charset::{push_word, written};
+use echo_addr::is_blank;
+use echo_charset::{push_escaped, push_word, written};
 use std::alloc::{AllocError, Global};
 use std::io::Write;
 
 /// The most messages of a base.
 const MOST_MESSAGES: u64 = 4_294_967_295;
-
-/// A word of another form.
-const REFUSED: u8 = 255;
 
 pub(crate) fn push_area(line: &mut Vec<u8>, area: &[u8]) -> Result<(), AllocError>
     ensures { OnOk result (line.new.items ≡ line.old.items ++ words.area_words area.now) }
@@ -78,10 +78,14 @@ fn with_digit(number: u64, digit: u8) -> u64
         .saturating_add(u64::from(digit.saturating_sub(b'0')))
 }
 
-pub(crate) fn is_id_line(line: &[u8]) -> bool
-    ensures { result ≡ words.is_id_line line.now }
+pub(crate) fn is_id_line(alloc: Global, line: &[u8]) -> Result<bool, AllocError>
+    ensures { IfOk result (λ is. is ≡ words.is_id_line line.now) }
 {
-    line.starts_with(b"id ") && is_id_word(id_word(line))
+    if line.starts_with(b"id ") {
+        is_id_word(alloc, id_word(line))
+    } else {
+        Ok(false)
+    }
 }
 
 pub(crate) fn id_word(line: &[u8]) -> &[u8]
@@ -90,84 +94,99 @@ pub(crate) fn id_word(line: &[u8]) -> &[u8]
     &line[line.len().min(3)..]
 }
 
-fn is_id_word(word: &[u8]) -> bool
-    ensures { result ≡ words.is_id_word word.now }
+fn is_id_word(alloc: Global, word: &[u8]) -> Result<bool, AllocError>
+    ensures { IfOk result (λ is. is ≡ ids.is_id_word word.now) }
 {
-    word.iter().fold(0, |state, byte| read_on(state, *byte)) == 1
+    let id = unescape(alloc, word)?;
+    if is_id(&id) {
+        Ok(word_in(&word_line(alloc, &id)?) == word)
+    } else {
+        Ok(false)
+    }
 }
 
-fn read_on(state: u8, byte: u8) -> u8
-    ensures { result ≡ words.read_on state byte }
+fn unescape(alloc: Global, word: &[u8]) -> Result<Vec<u8>, AllocError>
+    ensures { IfOk result (λ id. id.items ≡ ids.unescaped 0 word.now) }
+{
+    let mut id = Vec::with_capacity(alloc, word.len())?;
+    let mut state = 0;
+    'bytes: for byte in word {
+        push_ended(&mut id, byte_at(state, *byte))?;
+        state = next_state(state, *byte);
+    }
+    Ok(id)
+}
+
+fn push_ended(id: &mut Vec<u8>, ended: Option<u8>) -> Result<(), AllocError>
+    ensures { OnOk result (id.new.items ≡ id.old.items ++ cons_option ended []) }
+{
+    match ended {
+        Some(byte) => Ok(id.push(byte)?),
+        None => Ok(()),
+    }
+}
+
+fn digit(byte: u8) -> u8
+    ensures { result ≡ ids.digit byte }
+{
+    byte.saturating_sub(if byte <= b'9' { b'0' } else { b'a' - 10 }) % 16
+}
+
+fn next_state(state: u8, byte: u8) -> u8
+    ensures { result ≡ ids.next_state state byte }
 {
     match state {
-        0..=2 => at_byte(state, byte),
-        3..=4 => at_escape(state, byte),
-        5..=6 => at_first_digit(state, byte),
-        7..=47 => at_second_digit(state, byte),
-        _ => REFUSED,
+        0 if byte == b'\\' => 1,
+        1 if byte == b'x' => 2,
+        2 => 16 + digit(byte),
+        _ => 0,
     }
 }
 
-fn at_byte(state: u8, byte: u8) -> u8
-    ensures { result ≡ words.at_byte state byte }
+fn byte_at(state: u8, byte: u8) -> Option<u8>
+    ensures { result ≡ ids.byte_at state byte }
 {
-    match byte {
-        b'\\' if state == 0 => 3,
-        b'\\' => 4,
-        b' ' if state == 0 => REFUSED,
-        b' ' => 2,
-        b'!'..=b'~' => 1,
-        _ => REFUSED,
+    match state {
+        0 if byte == b'\\' => None,
+        1 if byte == b'x' => None,
+        0..=1 => Some(byte),
+        2 => None,
+        _ => Some(state % 16 * 16 + digit(byte)),
     }
 }
 
-fn at_escape(state: u8, byte: u8) -> u8
-    requires { state < 5 }
-    ensures { result ≡ words.at_escape state byte }
+fn is_id(id: &[u8]) -> bool
+    ensures { result ≡ ids.is_id id.now }
 {
-    match byte {
-        b'\\' => 1,
-        b'x' => state + 2,
-        _ => REFUSED,
-    }
+    !id.is_empty() && are_text_bytes(id) && !is_blank(id[0]) && !is_blank(id[id.len() - 1])
 }
 
-fn at_first_digit(state: u8, byte: u8) -> u8
-    ensures { result ≡ words.at_first_digit state byte }
+fn are_text_bytes(id: &[u8]) -> bool
+    ensures { result ≡ list_all ids.is_text_byte id.now }
 {
-    match hex_value(byte) {
-        Some(value) if state == 5 => 16 + value,
-        Some(value) => 32 + value,
-        None => REFUSED,
-    }
+    id.iter().all(|byte| is_text_byte(*byte))
 }
 
-fn at_second_digit(state: u8, byte: u8) -> u8
-    ensures { result ≡ words.at_second_digit state byte }
+fn is_text_byte(byte: u8) -> bool
+    ensures { result ≡ ids.is_text_byte byte }
 {
-    match hex_value(byte) {
-        Some(value) => at_value(state, state % 16 * 16 + value),
-        None => REFUSED,
-    }
+    byte != 0 && byte != b'\r'
 }
 
-fn at_value(state: u8, value: u8) -> u8
-    ensures { result ≡ words.at_value state value }
+/// The escaped form of an id, with a byte at each end.
+pub(crate) fn word_line(alloc: Global, id: &[u8]) -> Result<Vec<u8>, AllocError>
+    ensures { IfOk result (λ line. line.items ≡ escaped_line [] id.now) }
 {
-    match value {
-        9 | 10 if state < 32 => REFUSED,
-        9 | 10 => 2,
-        0 | 13 | b' '..=b'~' => REFUSED,
-        _ => 1,
-    }
+    let mut line = Vec::new(alloc);
+    push_escaped(&mut line, b"", id)?;
+    Ok(line)
 }
 
-fn hex_value(byte: u8) -> Option<u8>
-    ensures { result ≡ words.hex_digit byte }
+pub(crate) fn word_in(line: &[u8]) -> &[u8]
+    ensures { (id : List ℕ) → line.now ≡ escaped_line [] id → result.now ≡ escaped id }
 {
-    match byte {
-        b'0'..=b'9' => Some(byte - b'0'),
-        b'a'..=b'f' => Some(byte - b'a' + 10),
-        _ => None,
+    match line {
+        [_, word @ .., _] => word,
+        _ => line,
     }
 }

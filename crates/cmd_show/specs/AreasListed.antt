@@ -1,12 +1,12 @@
 -- The lines and the answer of `list --areas`.
-use Rattle.std.specs.Prelude.{◌≡◌, ◌≤◌, ℕ, ◌+◌, ◌-◌, ◌&&◌, Bool, List, ◌++◌, length, take, drop, codes, decimal, bytes_eq, count_by, is_some, Option, Some, unwrap_or, Result}
+use Rattle.std.specs.Prelude.{◌≡◌, ◌≤◌, ℕ, ◌+◌, ◌-◌, ◌&&◌, Bool, List, ◌++◌, length, take, drop, codes, decimal, bytes_eq, count_by, is_some, Option, unwrap_or}
 use Rattle.std.specs.{Ordering.is_eq, Ordering.nat_cmp, Cmp.Lexicographic.slice_cmp, List.flat_map, List.list_any, List.Sorted.IsStrictlySortedBy, Map.keys_of, Map.lookup}
 use Rattle.echo_export.specs.declared.json_line.MessageState.{MessageState, TheVariants.Purged, TheVariants.Scanned, TheVariants.Waiting}
 use Rattle.base_file.specs.Base.{Base}
 use Rattle.echo_filed.specs.Filed.{Filed}
 use Rattle.cmd_print.specs.BaseListed.{is_purged, total_text}
 use Rattle.cmd_show.specs.declared.area_counts.AreaCounts.{AreaCounts}
-use Rattle.cmd_status.specs.{declared.fault.Fault.Fault, declared.status.Status.Status, declared.status.Status.TheVariants.Good, Devices.Output, Ended.Answers, Inputs.IsBaseFault, Inputs.IsBaseGiven}
+use Rattle.cmd_status.specs.{declared.status.Status.Status, declared.status.Status.TheVariants.Good}
 
 abbrev pub is_in : List ℕ → Filed → Bool
 is_in tag m = bytes_eq tag m.echo.tag
@@ -42,15 +42,6 @@ pub record AreListed (base : Base) (lines : List ℕ) (status : Status) : Type 0
   pub are_tags : AreTagsOf base.messages tags
   pub printed : lines ≡ areas_text base.messages base.cursor tags ++ total_text (length base.messages) (length base.messages - base.cursor)
   pub status_is : status ≡ Good
-
--- The base file has no fault, and these are the lines of the areas of its base.
-pub record AreAreasListed (file : List ℕ) (lines : List ℕ) (status : Status) : Type 0 where
-  pub base : Base
-  pub given : IsBaseGiven (Some file) base.messages base.cursor
-  pub listed : AreListed base lines status
-
-abbrev pub ListAreasAnswers : List ℕ → Output → Output → Result Status Fault → Type 0
-ListAreasAnswers file old new answer = Answers (AreAreasListed file) (IsBaseFault (Some file)) old new answer
 
 abbrev pub no_counts : AreaCounts
 no_counts = record { messages = 0; waiting = 0; purged = 0 }

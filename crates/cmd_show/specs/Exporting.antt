@@ -1,11 +1,10 @@
 -- The lines of `export` for the messages of a base, and its answer.
-use Rattle.std.specs.Prelude.{◌≡◌, ℕ, zero, suc, ◌+◌, ◌==◌, ◌&&◌, nat_le, Bool, true, false, List, [], ◌++◌, length, codes, decimal, if◌then◌else◌, slice_get, Option, Some, None, option_map, Result}
+use Rattle.std.specs.Prelude.{◌≡◌, ℕ, zero, suc, ◌+◌, ◌==◌, ◌&&◌, nat_le, Bool, true, false, List, [], ◌++◌, length, codes, decimal, if◌then◌else◌, slice_get, Option, Some, None, option_map}
 use Rattle.echo_export.specs.{declared.json_line.MessageState.MessageState, declared.json_line.MessageState.TheVariants.Purged, declared.json_line.MessageState.TheVariants.Scanned, declared.json_line.MessageState.TheVariants.Waiting, declared.form.Form.Form, Forms.message_lost, Forms.message_text}
 use Rattle.base_file.specs.Base.{Base}
 use Rattle.echo_filed.specs.Filed.{Filed}
 use Rattle.echo_links.specs.Links.{upper}
 use Rattle.cmd_print.specs.BaseListed.{is_asked, is_purged}
-use Rattle.cmd_status.specs.{declared.fault.Fault.Fault, Devices.Output, Ended.AnswersInPieces, Inputs.IsBaseFault, Inputs.IsBaseGiven}
 
 -- The state of a message, by whether it waits for a scan and whether only the id of its text is left.
 abbrev pub state_by : Bool → Bool → MessageState
@@ -51,15 +50,6 @@ sought_lost form area first purged cursor base (suc n) =
 pub record IsExported (form : Form) (area : Option (List ℕ)) (first : ℕ) (purged : Bool) (base : Base) (lines : List ℕ) (count : ℕ) : Type 0 where
   pub printed : lines ≡ sought_texts form (option_map upper area) first purged base.cursor base.messages (length base.messages)
   pub counted : count ≡ sought_lost form (option_map upper area) first purged base.cursor base.messages (length base.messages)
-
--- The base file has no fault, and these are the lines printed for its base.
-pub record IsBaseExported (form : Form) (area : Option (List ℕ)) (first : ℕ) (purged : Bool) (file : List ℕ) (lines : List ℕ) (count : ℕ) : Type 0 where
-  pub base : Base
-  pub given : IsBaseGiven (Some file) base.messages base.cursor
-  pub exported : IsExported form area first purged base lines count
-
-abbrev pub ExportAnswers : Form → Option (List ℕ) → ℕ → Bool → List ℕ → Output → Output → Result ℕ Fault → Type 0
-ExportAnswers form area first purged file old new answer = AnswersInPieces (IsBaseExported form area first purged file) (IsBaseFault (Some file)) old new answer
 
 -- The line on standard error with the number of U+FFFD that were printed.
 abbrev pub lost_line : ℕ → List ℕ

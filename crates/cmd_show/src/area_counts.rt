@@ -1,13 +1,13 @@
 //! `list --areas`: how many messages of each area a base has.
 ghost use Rattle.std.specs.{Prelude.{◌≡◌, ◌<◌, ◌^◌, ◌+◌, ◌++◌, ℕ, List, IfErr, IfOk, OnOk, option_copied, slice_get, take, length}, List.flat_map};
 ghost use Rattle.base_file.specs.Base as model;
-ghost use Rattle.cmd_show.specs.AreasListed.{AreListed, Ascend, AreWithin, HaveCounts, ListAreasAnswers, area_line, counted_more, counts_of, counts_text};
+ghost use Rattle.cmd_show.specs.AreasListed.{AreListed, Ascend, AreWithin, HaveCounts, area_line, counted_more, counts_of, counts_text};
 ghost use Rattle.base_folder.specs.Fetching.{CannotRead, IsUnread};
 ghost use Rattle.cmd_status.specs.{declared.status.Status.TheVariants.Good, Devices.output_of, Ended.Answers};
 ghost use Rattle.echo_filed.specs.Filed as filed;
 
 use crate::exporting::state_of;
-use base_folder::{BaseReader, MessageSource, fetch_message};
+use base_folder::{MessageSource, fetch_message};
 use cmd_print::push_base_total;
 use cmd_status::{Fault, Status, print_rest};
 use disk_io::Sink;
@@ -16,7 +16,6 @@ use echo_export::MessageState;
 use echo_filed::Filed;
 use std::alloc::{AllocError, Global};
 use std::collections::BTreeMap;
-use std::hash::BuildHasher;
 use std::io::Write;
 
 /// How many messages an area has, how many of them wait for a scan, and how many were scanned and purged.
@@ -29,20 +28,7 @@ pub struct AreaCounts {
 
 /// `list --areas BASE`: prints each area with messages, ascending by tag: how many it has, how many wait, how many are
 /// purged. Then it prints what `list` prints last. Of a faulty base nothing is printed.
-pub fn list_areas<'a, S: BuildHasher + Drop, W: Sink>(
-    alloc: Global,
-    base: &[u8],
-    hasher: S,
-    out: &mut W,
-) -> Result<Status, Fault<'a>>
-    ensures { ListAreasAnswers base.now (output_of W.contents W.failures W.holds out.old) (output_of W.contents W.failures W.holds out.new) result }
-{
-    let mut messages = BaseReader::read(alloc, base, hasher)?;
-    list_areas_streamed(alloc, "", &mut messages, out)
-}
-
-/// Counts messages that are read one by one, of the base with this path.
-pub fn list_areas_streamed<'a, M: MessageSource, W: Sink>(
+pub fn list_areas<'a, M: MessageSource, W: Sink>(
     alloc: Global,
     path: &'a str,
     messages: &mut M,

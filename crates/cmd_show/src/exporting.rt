@@ -1,11 +1,11 @@
 ghost use Rattle.std.specs.Prelude.{◌≡◌, ◌<◌, ◌^◌, ◌++◌, IfErr, IfOk, OnOk, OnErr, length, option_copied};
 ghost use Rattle.base_file.specs.Base as model;
 ghost use Rattle.cmd_status.specs.{Devices.output_of, Ended.Stops, Lines.PassesOn, Lines.WritesFront};
-ghost use Rattle.cmd_show.specs.Exporting.{ExportAnswers, IsExported, is_exported, is_sought, lost_line, sought_count, sought_lost, sought_text, sought_texts, state_of};
+ghost use Rattle.cmd_show.specs.Exporting.{IsExported, is_exported, is_sought, lost_line, sought_count, sought_lost, sought_text, sought_texts, state_of};
 ghost use Rattle.cmd_show.specs.Fetching.{PrintsReading, StopsReading};
 
 use crate::listing::{is_of_area, upper_tag};
-use base_folder::{BaseReader, MessageSource, fetch_message, start_number};
+use base_folder::{MessageSource, fetch_message, start_number};
 use cmd_status::{Fault, flush_piece, print_rest};
 use disk_io::Sink;
 use echo_addr::Items;
@@ -13,7 +13,6 @@ use echo_charset::written;
 use echo_export::{Form, MessageState, push_message};
 use echo_filed::{Filed, is_stub};
 use std::alloc::{AllocError, Global};
-use std::hash::BuildHasher;
 use std::io::Write;
 
 /// Which messages of a base are exported, and as what: those of the area, if one is given, from the number `first` on.
@@ -34,23 +33,10 @@ struct ExportFilter {
     purged: bool,
 }
 
-/// `export [--area TAG] [--from I] [--purged] [--mbox | --json] BASE`: prints the messages asked for, none of a faulty
-/// base. Returns how many U+FFFD were printed for characters that the charset of a message lacks.
-pub fn export<'a, S: BuildHasher + Drop, W: Sink>(
-    alloc: Global,
-    asked: &ExportQuery<'_>,
-    base: &[u8],
-    hasher: S,
-    out: &mut W,
-) -> Result<u128, Fault<'a>>
-    ensures { ExportAnswers asked.now.form (option_copied asked.now.area) asked.now.first asked.now.purged base.now (output_of W.contents W.failures W.holds out.old) (output_of W.contents W.failures W.holds out.new) result }
-{
-    let mut messages = BaseReader::read(alloc, base, hasher)?;
-    export_messages(alloc, asked, "", &mut messages, out)
-}
-
-/// Exports messages that are read one by one. A fault of a message ends it there; `look` of a folder finds it before.
-pub fn export_messages<'a, M: MessageSource, W: Sink>(
+/// `export [--area TAG] [--from I] [--purged] [--mbox | --json] BASE`: prints the messages asked for. Returns how many U+FFFD
+/// were printed for characters that the charset of a message lacks. A fault of a message ends it there; `look` of a folder
+/// finds it before.
+pub fn export<'a, M: MessageSource, W: Sink>(
     alloc: Global,
     asked: &ExportQuery<'_>,
     path: &'a str,

@@ -18,14 +18,14 @@ mod showing;
 mod tags;
 mod words;
 
-pub use area_counts::{AreaCounts, list_areas, list_areas_streamed};
-pub use exporting::{ExportQuery, export, export_messages, tell_lost};
+pub use area_counts::{AreaCounts, list_areas};
+pub use exporting::{ExportQuery, export, tell_lost};
 pub use faulty::FaultyLine;
 pub use judged::{Judged, judge};
 pub use laws::one_printing;
 pub use link_laws::first_fault_is_reported_first;
 pub use linking::{NamedFile, links};
 pub use links_text::{fault_number, push_number};
-pub use listing::{ListQuery, list, list_messages};
+pub use listing::{ListQuery, list};
 pub use nodelists::nodelist;
 pub use showing::show;

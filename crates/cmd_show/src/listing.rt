@@ -3,16 +3,15 @@ ghost use Rattle.base_file.specs.Base as model;
 ghost use Rattle.cmd_status.specs.{Devices.output_of, Ended.Stops, Lines.PassesOn, Lines.WritesFront};
 ghost use Rattle.echo_links.specs.Links.{upper};
 ghost use Rattle.cmd_print.specs.BaseListed.{asked_text, is_asked, is_of_area, messages_text};
-ghost use Rattle.cmd_show.specs.{Fetching.PrintsReading, Fetching.StopsReading, Listing.IsListed, Listing.ListAnswers};
+ghost use Rattle.cmd_show.specs.{Fetching.PrintsReading, Fetching.StopsReading, Listing.IsListed};
 
-use base_folder::{BaseReader, MessageSource, fetch_message, start_number};
+use base_folder::{MessageSource, fetch_message, start_number};
 use cmd_print::{ListForm, push_base_total, push_listed};
 use cmd_status::{Fault, Status, flush_piece, print_rest};
 use disk_io::Sink;
 use echo_addr::Items;
 use echo_filed::Filed;
 use std::alloc::{AllocError, Global};
-use std::hash::BuildHasher;
 
 /// Which messages of a base are listed, and how: those of the area, if one is given, from the number `first` on.
 #[derive(Clone, Copy)]
@@ -30,23 +29,9 @@ struct ListFilter {
 }
 
 /// `list [--short] [--area TAG] [--from I] BASE`: prints the messages from the number `first` on, of the area if one
-/// is given. Then it prints how many the base has, and how many wait. Of a faulty base nothing is printed.
-pub fn list<'a, S: BuildHasher + Drop, W: Sink>(
-    alloc: Global,
-    asked: &ListQuery<'_>,
-    base: &[u8],
-    hasher: S,
-    out: &mut W,
-) -> Result<Status, Fault<'a>>
-    ensures { ListAnswers asked.now.form (option_copied asked.now.area) asked.now.first base.now (output_of W.contents W.failures W.holds out.old) (output_of W.contents W.failures W.holds out.new) result }
-{
-    let mut messages = BaseReader::read(alloc, base, hasher)?;
-    list_messages(alloc, asked, "", &mut messages, out)
-}
-
-/// Lists messages that are read one by one. A fault of a message ends it there; `look` of a base folder finds it
-/// before.
-pub fn list_messages<'a, M: MessageSource, W: Sink>(
+/// is given. Then it prints how many the base has, and how many wait. A fault of a message ends it there; `look` of a base
+/// folder finds it before.
+pub fn list<'a, M: MessageSource, W: Sink>(
     alloc: Global,
     asked: &ListQuery<'_>,
     path: &'a str,

@@ -1,7 +1,7 @@
 //! The state of a base folder before it is opened.
 
-use cmd_base::break_hard_links;
-use cmd_input::{drawn_key, folder_path, is_strange};
+use cmd_base::{break_hard_links, drawn_key, is_strange};
+use cmd_input::folder_path;
 use cmd_status::Fault;
 use station_bases::FolderProbe;
 

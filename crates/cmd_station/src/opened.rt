@@ -3,8 +3,9 @@ ghost use Rattle.std.specs.Prelude.{◌≡◌, Some};
 
 use base_folder_store::FolderStore;
 use base_store::{SipDigest, Store};
-use cmd_base::{expected_keys, note_outbound};
-use cmd_input::{Tossing, flush_name, lead_to_one};
+use cmd_base::flush_name;
+use cmd_input::lead_to_one;
+use cmd_packets::{Tossing, expected_keys, note_outbound};
 use cmd_status::Fault;
 use disk_io::Disk;
 use echo_filed::Key;

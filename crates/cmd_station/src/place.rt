@@ -3,8 +3,8 @@ ghost use Rattle.std.specs.Prelude.{OnOk};
 ghost use Rattle.station.specs.Opening.{AreFree};
 
 use crate::found::{FolderState, found_in};
-use cmd_base::BaseFiles;
-use cmd_input::{BaseLock, LinkLock, is_folder};
+use cmd_base::{BaseFiles, is_folder};
+use cmd_input::{BaseLock, LinkLock};
 use cmd_status::{Fault, FileLock};
 use cmd_words::Place;
 use disk_io::Disk;

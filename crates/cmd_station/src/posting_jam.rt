@@ -2,10 +2,10 @@
 ghost use Rattle.std.specs.Prelude.{◌≡◌, None};
 
 use crate::changing::{BaseCommand, PostEnd, find_and_post};
-use base_file::BaseFault;
-use cmd_input::{LinkLock, is_folder, named_serial, named_stamp, open_folder_reader, read_file};
+use cmd_base::open_base;
+use cmd_input::{LinkLock, named_serial, named_stamp};
 use cmd_jam::Outbox;
-use cmd_numbered::{PostedWords, is_posted, is_posted_streamed, own_serial, tell_refused};
+use cmd_numbered::{PostedWords, is_posted, own_serial, tell_refused};
 use cmd_status::{Fault, FileLock, Status};
 use cmd_store::{NewMessage, Post};
 use cmd_words::{Place, PostJamWords};
@@ -15,7 +15,6 @@ use echo_addr::Address;
 use echo_jam::JamDraft;
 use model_steps::{PostFault, Stamp};
 use station::lock_and_read_links;
-use std::collections::hash_map::RandomState;
 
 /// `post --jam PATH --area TAG`: the words are judged first, then the link file, then the JAM base. Each message is
 /// marked once it is posted. One that is refused stays as it is, and the next one follows.
@@ -192,13 +191,8 @@ impl<'a> JamPoster<'a> {
             subject: draft.subject,
         };
         let base = self.place.base;
-        if is_folder(self.rt, base) {
-            let mut messages = open_folder_reader(self.rt, base, 0, None)?;
-            return is_posted_streamed(self.rt.alloc(), words, base, &mut messages);
-        }
-        let hasher = RandomState::new(self.rt).map_err(|_| Fault::Base(BaseFault::Read))?;
-        let bytes = read_file(self.rt, base, usize::MAX)?;
-        is_posted(self.rt.alloc(), words, &bytes, hasher)
+        let mut messages = open_base(self.rt, base, 0)?;
+        is_posted(self.rt.alloc(), words, base, &mut messages)
     }
 }
 

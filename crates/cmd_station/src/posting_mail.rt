@@ -3,12 +3,9 @@
 ghost use Rattle.std.specs.Prelude.{◌≡◌, None};
 
 use crate::changing::{BaseCommand, find_and_change};
-use base_file::BaseFault;
-use cmd_input::{
-    LinkLock, MAX_TEXT_FILE, is_folder, named_serial, named_stamp, open_folder_reader, read_file,
-    read_standard_input,
-};
-use cmd_numbered::{Answered, find_answered, find_answered_streamed};
+use cmd_base::open_base;
+use cmd_input::{LinkLock, MAX_TEXT_FILE, named_serial, named_stamp, read_standard_input};
+use cmd_numbered::{Answered, find_answered};
 use cmd_status::{Fault, FileLock, Status};
 use cmd_store::{LetterFault, MailDefaults, MailWords, PostMail};
 use cmd_words::PostMailWords;
@@ -20,7 +17,6 @@ use echo_mail::{MailFault, exported_id, field_value, named_area, read_mail};
 use model_steps::Stamp;
 use station::lock_links;
 use std::alloc::{AllocError, Global};
-use std::collections::hash_map::RandomState;
 use std::{fs, str};
 
 /// The word for the charset of the message that is answered.
@@ -109,13 +105,8 @@ fn message_of_id<'a>(
     if !fs::exists(rt, base).unwrap_or(true) {
         return Ok(None);
     }
-    if is_folder(rt, base) {
-        let mut messages = open_folder_reader(rt, base, 0, None)?;
-        return find_answered_streamed(rt.alloc(), id, base, &mut messages);
-    }
-    let hasher = RandomState::new(rt).map_err(|_| Fault::Base(BaseFault::Read))?;
-    let bytes = read_file(rt, base, usize::MAX)?;
-    find_answered(rt.alloc(), id, &bytes, hasher)
+    let mut messages = open_base(rt, base, 0)?;
+    find_answered(rt.alloc(), id, base, &mut messages)
 }
 
 // The id of the message that the mail answers, if no area is named or the charset of that message is asked for. A mail

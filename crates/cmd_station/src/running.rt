@@ -6,9 +6,10 @@ ghost use Rattle.station.specs.Opening.{AreFree};
 
 use crate::opened::Opened;
 use crate::place::Station;
-use base_file::BaseFault;
 use base_store::{SipDigest, StoreError};
-use cmd_input::{MAX_TEXT_FILE, Messages, Progress, Tossing, open_folder_reader, read_file};
+use cmd_base::{Messages, hash_state, open_base};
+use cmd_input::{MAX_TEXT_FILE, Progress, read_file};
+use cmd_packets::Tossing;
 use cmd_status::{Fault, FileLock};
 use cmd_store::{CommandError, StoreCommand};
 use disk_io::{Disk, Sink};
@@ -179,15 +180,12 @@ pub(crate) fn file_station<'a>(
     at: Station<'a>,
     progress: Option<&'a Progress<'a>>,
 ) -> Result<FileStation<'a, RandomState, Messages<'a, 'a>>, Fault<'a>> {
-    match RandomState::new(at.rt) {
-        Ok(hasher) => Ok(FileStation {
-            links: at.place.links,
-            base: at.path,
-            hasher,
-            watch: Messages { progress },
-        }),
-        Err(_) => Err(Fault::Base(BaseFault::Read)),
-    }
+    Ok(FileStation {
+        links: at.place.links,
+        base: at.path,
+        hasher: hash_state(at.rt)?,
+        watch: Messages { progress },
+    })
 }
 
 /// A station with a base folder in this state.
@@ -247,7 +245,7 @@ pub(crate) fn by_name<'a>(at: Station<'a>, fault: Fault<'a>) -> Fault<'a> {
 
 // The fault of a base folder that has a damaged message.
 fn damaged_in<'a>(rt: &HostRuntime, base: &'a str) -> Fault<'a> {
-    match open_folder_reader(rt, base, 0, None) {
+    match open_base(rt, base, 0) {
         Ok(_) => Fault::CannotUse(base),
         Err(fault) => fault,
     }

@@ -4,7 +4,8 @@ ghost use Rattle.station.specs.Opening.{AreFree};
 
 use crate::place::{Station, find_base, station_locks};
 use crate::running::{Before, by_name, run_at_station};
-use cmd_input::{PacketStreams, PathNames, Progress, Tossing, path_names};
+use cmd_input::{PathNames, Progress, path_names};
+use cmd_packets::{PacketStreams, Tossing};
 use cmd_status::{Fault, FileLock, LIMITS, Status, capped_limits, parse_number};
 use cmd_store::Toss;
 use cmd_words::{Place, TossWords};

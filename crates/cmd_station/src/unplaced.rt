@@ -1,7 +1,7 @@
 //! The path at which the packets of a scan could not be put in place.
 
 use crate::scanning::{Outbound, StationScan};
-use cmd_base::ScanFiles;
+use cmd_packets::ScanFiles;
 use cmd_status::{Fault, Status};
 use cmd_words::Place;
 use disk_atomic::PlacingError;

@@ -1,7 +1,8 @@
 -- The files that a crash leaves while a packet gets its path, by a second path and the removal of the first.
 use Rattle.std.proofs.Common.{◌≡◌, ◌≢◌, ◌⊎◌, inl, inr, ⊎_elim, ◌∙◌, ℕ, List, refl, sym}
+use Rattle.std.specs.Prelude.{IsSome}
 use Rattle.disk_io.specs.Runs.{ChangesAt, ChangesNothing, EitherPath, LeavesOnly, OneStepOn, ThisPath}
-use Rattle.disk_io.{specs.{Disk.DiskState, Steps.{ChangesFile, TornNaming, TornRemoval}}, proofs.{Moments.{one_call, then_nothing}, Tearing.ChangesFile-none}}
+use Rattle.disk_io.{specs.{Disk.{DiskState, Honestly}, Steps.{ChangesFile, TornNaming, TornRemoval}}, proofs.{Moments.{one_call, then_nothing}, Tearing.ChangesFile-none}}
 use Rattle.disk_atomic.{specs.Naming.{Gives, Names}, proofs.Changes.{only_call, only_nothing, then_only, then_steps}}
 
 abbrev Links : List ℕ → List ℕ → DiskState → DiskState → Type 0
@@ -36,11 +37,13 @@ module _ (path staging : List ℕ) (other : staging ≢ path) where
         staged = ⊎_elim (λ kept. ⊎_elim (λ was. inl (kept ∙ was)) (λ none. inr (kept ∙ none)) r.staged) (λ none. inr none) (q.within still);
       })
 
-pub link_gives : (path staging : List ℕ) → staging ≢ path → (old new : DiskState) → old.is_named staging → old.is_flushed staging → old.is_named path → Links path staging old new → Gives old new path staging
-link_gives path staging other old new named flushed free call = record {
+pub link_gives : (path staging : List ℕ) → staging ≢ path → (old new : DiskState) → old.is_named staging → old.is_flushed staging → old.is_named path → Links path staging old new
+    → Honestly new (IsSome (old.seen path) → new.seen path ≡ old.seen path) → Gives old new path staging
+link_gives path staging other old new named flushed free call over = record {
   any_moment = linked_run path staging other old new named flushed free call;
   changes = only_call (EitherPath staging path) old new path (TornNaming (old.seen staging)) (inr refl) free (λ m e. inr e) (λ m e. e) call;
   stays = record { seen = call.others staging other; named = call.named staging other; flushed = call.flushed staging other };
+  over_none = over;
 }
 
 pub gives_quiet : (d0 d1 d2 : DiskState) (path staging : List ℕ) → Gives d0 d1 path staging → ChangesNothing d1 d2 → Gives d0 d2 path staging
@@ -54,4 +57,5 @@ gives_quiet d0 d1 d2 path staging run quiet =
         named = λ is. quiet.named staging (λ h. h) (run.stays.named is);
         flushed = λ is. quiet.flushed staging (λ h. h) (run.stays.flushed is);
       };
+      over_none = λ honest some. quiet.seen path ∙ run.over_none (quiet.honest honest) some;
     }

@@ -34,6 +34,7 @@ pub record Gives (old new : DiskState) (path staging : List ℕ) : Type 0 where
   pub any_moment : LeavesOnly old new (OneStepOn (Names path staging) old)
   pub changes : ChangesOnly (λ m. (m ≡ staging) ⊎ (m ≡ path)) old new
   pub stays : StaysThere old new staging
+  pub over_none : Honestly new (IsSome (old.seen path) → new.seen path ≡ old.seen path)
 
 -- The staging file now has only its path, and it is on the disk.
 pub record HasMoved (old new : DiskState) (path staging : List ℕ) : Type 0 where

@@ -27,7 +27,7 @@ fn finish_one<D: Disk>(
     requires there { Honestly (D.state disk.old) (IsThere (D.state disk.old) left.now) }
     requires named { AreNamed (D.state disk.old) left.now }
     ensures over { Honestly (D.state disk.new) (IfOk result (λ over. over ≡ true → IsOver cursor (D.state disk.old) (D.state disk.new) left.now)) }
-    ensures kept { Honestly (D.state disk.new) (OnOk result (KeepsFile (D.state disk.old) (D.state disk.new) left.now)) }
+    ensures kept { Honestly (D.state disk.new) (KeepsFile (D.state disk.old) (D.state disk.new) left.now) }
     ensures taken { Honestly (D.state disk.new) (IfOk result (λ over. over ≡ false → IsFreeOf (D.state disk.old) left.now → ⊥)) }
     ensures any_moment { Honestly (D.state disk.new) (LeavesOnly (D.state disk.old) (D.state disk.new) (OneStepOn (Finishes cursor left.now) (D.state disk.old))) }
     ensures changes { ChangesOnly (λ m. (m ≡ left.now.staging.now) ⊎ (m ≡ left.now.path.now)) (D.state disk.old) (D.state disk.new) }
@@ -53,7 +53,7 @@ pub fn finish_stopped<D: Disk>(
     requires found { AreLeftIn folder.now found.now }
     requires there { Honestly (D.state disk.old) (All (IsThere (D.state disk.old)) found.now) }
     ensures over { Honestly (D.state disk.new) (IfOk result (λ all. all ≡ true → All (IsOver cursor (D.state disk.old) (D.state disk.new)) found.now)) }
-    ensures kept { Honestly (D.state disk.new) (OnOk result (All (KeepsFile (D.state disk.old) (D.state disk.new)) found.now)) }
+    ensures kept { Honestly (D.state disk.new) (All (KeepsFile (D.state disk.old) (D.state disk.new)) found.now) }
     ensures taken { Honestly (D.state disk.new) (IfOk result (λ all. all ≡ false → All (IsFreeOf (D.state disk.old)) found.now → ⊥)) }
     ensures named { OnOk result ((m : List ℕ) → IsIn folder.now m → (D.state disk.new).is_named m) }
 

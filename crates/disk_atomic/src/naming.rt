@@ -70,7 +70,6 @@ fn give_path<D: Disk>(
     requires { CanLink (D.state disk.old) staging.now path.now }
     ensures given { Honestly (D.state disk.new) (IfOk result (λ given. given ≡ true → (D.state disk.new).seen path.now ≡ (D.state disk.old).seen staging.now)) }
     ensures durable { IfOk result (λ given. given ≡ true → (D.state disk.new).is_flushed path.now) }
-    ensures over_none { Honestly (D.state disk.new) (OnOk result (IsSome ((D.state disk.old).seen path.now) → (D.state disk.new).seen path.now ≡ (D.state disk.old).seen path.now)) }
     ensures taken { Honestly (D.state disk.new) (IfOk result (λ given. given ≡ false → IsTaken (D.state disk.old) path.now staging.now)) }
     ensures gives { Gives (D.state disk.old) (D.state disk.new) path.now staging.now }
     ensures cause { HasCause (D.failures disk.old) (D.failures disk.new) result }
@@ -92,7 +91,7 @@ pub fn name_packet<D: Disk>(
     requires inside { AreBothIn folder.now staging.now path.now }
     requires can { CanLink (D.state disk.old) staging.now path.now }
     ensures named { Honestly (D.state disk.new) (IfOk result (λ named. named ≡ true → HasMoved (D.state disk.old) (D.state disk.new) path.now staging.now)) }
-    ensures over_none { Honestly (D.state disk.new) (OnOk result (IsSome ((D.state disk.old).seen path.now) → (D.state disk.new).seen path.now ≡ (D.state disk.old).seen path.now)) }
+    ensures over_none { Honestly (D.state disk.new) (IsSome ((D.state disk.old).seen path.now) → (D.state disk.new).seen path.now ≡ (D.state disk.old).seen path.now) }
     ensures taken { Honestly (D.state disk.new) (IfOk result (λ named. named ≡ false → IsTaken (D.state disk.old) path.now staging.now)) }
     ensures stays { IfOk result (λ named. named ≡ false → StaysThere (D.state disk.old) (D.state disk.new) staging.now) }
 
@@ -110,7 +109,7 @@ pub fn name_packet<D: Disk>(
 }
 
 /// Gives each packet its path, and returns whether all have theirs. If another file has the path of a packet, that file
-/// stays, and the packet keeps its staging path.
+/// stays, even if the disk fails. The packet keeps its staging path.
 pub fn name_packets<D: Disk>(
     alloc: Global,
     disk: &mut D,
@@ -121,7 +120,7 @@ pub fn name_packets<D: Disk>(
     requires staged { All (IsStaged (staged_in (D.state disk.old).seen) (D.state disk.old)) packets.now }
     ensures named { Honestly (D.state disk.new) (IfOk result (λ all. all ≡ true → All (HasItsPath (staged_in (D.state disk.old).seen) (D.state disk.new)) packets.now)) }
     ensures taken { Honestly (D.state disk.new) (IfOk result (λ all. all ≡ false → All (IsFree (D.state disk.old)) packets.now → ⊥)) }
-    ensures kept { Honestly (D.state disk.new) (OnOk result (All (KeepsPath (D.state disk.old) (D.state disk.new)) packets.now)) }
+    ensures kept { Honestly (D.state disk.new) (All (KeepsPath (D.state disk.old) (D.state disk.new)) packets.now) }
     ensures settled { OnOk result ((m : List ℕ) → IsIn folder.now m → (D.state disk.new).is_named m) }
 
     ensures any_moment { Honestly (D.state disk.new) (LeavesOnly (D.state disk.old) (D.state disk.new) (OneStepOn (NamesEach (staged_in (D.state disk.old).seen) packets.now) (D.state disk.old))) }

@@ -5,7 +5,7 @@ use crate::disk_error::DiskError;
 
 /// Files by their paths, which a crash may cut short. A path begins with its folder's path, which ends in a slash or
 /// is empty. A fault of the device is answered only where `failures` rose. After a failed call only what a crash may
-/// leave is known.
+/// leave is known, and that a failed link keeps a file that had the path.
 ///
 /// Answers and preconditions about files hold only if the disk was honest until then: files that others change may
 /// answer anything.
@@ -74,6 +74,7 @@ pub trait Disk {
         ensures linked { IfOk result (λ linked. linked ≡ true → (state self.new).seen to.now ≡ (state self.old).seen from.now) }
         ensures free { Honestly (state self.new) (IfOk result (λ linked. IsTrue linked ↔ ((state self.old).seen to.now ≡ None))) }
         ensures taken { IfOk result (λ linked. linked ≡ false → (state self.new).seen to.now ≡ (state self.old).seen to.now) }
+        ensures over { Honestly (state self.new) (IsSome ((state self.old).seen to.now) → (state self.new).seen to.now ≡ (state self.old).seen to.now) }
         ensures kept { IfOk result (λ linked. linked ≡ true → (state self.new).is_flushed to.now) }
         ensures changes { ChangesAt (ThisPath to.now) (ThisPath to.now) (EitherPath from.now to.now) (ChangesFile (state self.old) to.now (TornNaming ((state self.old).seen from.now))) (state self.old) (state self.new) }
         ensures cause { HasCause (failures self.old) (failures self.new) result };

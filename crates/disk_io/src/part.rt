@@ -84,8 +84,9 @@ pub fn fill_with_part<D: Disk>(
     ensures quiet { ChangesNothing (D.state disk.old) (D.state disk.new) }
     ensures cause { HasCause (D.failures disk.old) (D.failures disk.new) result }
 {
-    part.clear();
-    part.reserve_exact(to - from)?;
-    part.resize(to - from, 0)?;
+    let size = to - from;
+    part.reserve_exact(size.saturating_sub(part.len()))?;
+    // Old bytes are overwritten, so they are not cleared first.
+    part.resize(size, 0)?;
     fill_part(disk, path, from, part)
 }

@@ -1,6 +1,6 @@
 -- The calls on files and their answers, and the disk after them.
 use Rattle.std.specs.Prelude.{◌≡◌, ◌≢◌, ◌≤◌, ◌<◌, ℕ, zero, suc, ◌+◌, List, [], ◌∷◌, ◌++◌, length, take, drop, slice_index, Some, None, IsSome}
-use Rattle.std.proofs.Common.{inl, inr}
+use Rattle.std.{proofs.Common.{inl, inr}, specs.Option.option_or}
 use Rattle.disk_io.specs.{Disk.DiskState, Disk.Files, Disk.bytes_in, Steps.TornWrite, Steps.TornMaking, Steps.TornRemoval, Steps.TornNaming}
 use Rattle.disk_system.specs.Next.{answered, changed, named_anew, moved, synced, folder_synced, OtherThan, OrIs, Neither}
 
@@ -62,7 +62,7 @@ after_rename (suc n) from to unknown old =
 -- The answers: it failed, the second path had a file, or that path now leads to the file.
 abbrev pub after_link : ℕ → List ℕ → List ℕ → Files → DiskState → DiskState
 after_link zero from to unknown old =
-    named_anew old to (unknown to) (TornNaming (old.seen from)) (OtherThan to old.is_flushed) (Neither from to old.is_alone) (λ m other is. is.0)
+    named_anew old to (option_or (old.seen to) (unknown to)) (TornNaming (old.seen from)) (OtherThan to old.is_flushed) (Neither from to old.is_alone) (λ m other is. is.0)
 after_link (suc zero) from to unknown old = answered (old.seen to ≢ None) old
 after_link (suc (suc n)) from to unknown old =
     answered (old.seen to ≡ None)

@@ -7,7 +7,7 @@ use echo_filed::Filed;
 use std::alloc::{AllocError, Global};
 
 /// A form of a message: a mail of a mailbox, or a line of JSON.
-#[derive(Clone, Copy, Debug, PartialEq, Eq)]
+#[derive(Clone, Copy, Debug)]
 pub enum Form {
     Mailbox,
     Json,

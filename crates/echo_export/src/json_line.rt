@@ -13,7 +13,7 @@ use json::Writer;
 use std::alloc::{AllocError, Global};
 
 /// The state of a message of a base: it waits for a scan, it was scanned, or it is a stub.
-#[derive(Clone, Copy, Debug, PartialEq, Eq)]
+#[derive(Clone, Copy, Debug)]
 pub enum MessageState {
     Scanned,
     Waiting,

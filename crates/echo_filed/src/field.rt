@@ -62,6 +62,14 @@ fn take_piece<R: Source>(reader: &mut R, string: &mut Vec<u8>, size: usize) -> R
     ensures device { CountsBreak result (R.failures reader.old) (R.failures reader.new) }
 {
     let had = string.len();
+    let held = reader.held();
+    let there = held.len().min(size - had);
+    if there > 0 {
+        string.reserve_exact(there)?;
+        string.extend_from_slice(&held[..there])?;
+        reader.skip(there);
+        return Ok(());
+    }
     let step = (size - had).min(STEP);
     string.reserve_exact(step)?;
     string.resize(had + step, 0)?;

@@ -65,7 +65,7 @@ impl Key {
         if let Some(msgid) = front.msgid() {
             return by_id(alloc, tag, msgid);
         }
-        let kept = front.kept.to_lines(alloc)?;
+        let kept = front.kept.lines_into(Vec::new(alloc))?;
         by_content(alloc, tag, date, to_name, from_name, subject, kept)
     }
 }

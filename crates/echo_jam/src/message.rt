@@ -17,7 +17,7 @@ use echo_text::split_line;
 use std::alloc::{AllocError, Global};
 
 /// The bytes to append to the headers, the texts and the index of a JAM base, and how many subfields were cut.
-#[derive(Debug, Drop)]
+#[derive(Drop)]
 pub struct Jam {
     pub headers: Vec<u8>,
     pub texts: Vec<u8>,

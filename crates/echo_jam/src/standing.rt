@@ -4,7 +4,7 @@ ghost use Rattle.echo_packet.specs.Header as words;
 ghost use Rattle.echo_jam.specs.Standing.{active_at, active_in, are_entries, entries_in, fields_end, has_mark, has_text, is_base, is_counted, is_deleted_at, is_entry, is_header, is_unwritten, last_at, last_in, next_number, place_in, standing_in, written_behind};
 
 /// The last message of a base: the place of its header, that of its text, and how long that is.
-#[derive(Clone, Copy, Debug, PartialEq, Eq)]
+#[derive(Clone, Copy)]
 pub struct Last {
     pub place: u32,
     pub text: u32,
@@ -13,7 +13,7 @@ pub struct Last {
 
 /// The state of a JAM base. `entries` leaves out index entries of zeros at the end. `active` is the count of active
 /// messages that the base states, `counted` that of those found. `last` is none if that message is gone.
-#[derive(Clone, Copy, Debug, PartialEq, Eq)]
+#[derive(Clone, Copy)]
 pub struct Standing {
     pub entries: u32,
     pub next: u32,

@@ -16,7 +16,7 @@ pub const ATTRIBUTE_AT: usize = 52;
 
 /// The parts that an editor wrote: names, subject, ids and lines that end in 0D. The ids are those of the message
 /// replied to and of the message; each may be empty. Lines that posting makes or a scan adds are left out.
-#[derive(Debug, Drop)]
+#[derive(Drop)]
 pub struct JamDraft<'a> {
     pub from_name: &'a [u8],
     pub to_name: &'a [u8],

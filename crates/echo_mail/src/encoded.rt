@@ -14,7 +14,7 @@ use echo_text::split_line;
 use std::alloc::{AllocError, Global};
 
 /// The text before a word of a field.
-#[derive(Clone, Copy, Debug, PartialEq, Eq)]
+#[derive(Clone, Copy)]
 pub(crate) enum PrecedingText {
     Nothing,
     Word,

@@ -9,7 +9,7 @@ use echo_text::{split_line, trimmed};
 use std::alloc::{AllocError, Global};
 
 /// A header field (RFC 5322): its name, and its value on one line without the blanks at both ends.
-#[derive(Debug, Drop, PartialEq, Eq)]
+#[derive(Debug, Drop)]
 pub struct Field {
     pub name: Items<u8>,
     pub value: Items<u8>,

@@ -12,7 +12,7 @@ use std::alloc::Global;
 const FROM: &[u8] = b"From ";
 
 /// A mail (RFC 5322): the fields of its header, and its body with lines that end in 0D.
-#[derive(Debug, Drop, PartialEq, Eq)]
+#[derive(Debug, Drop)]
 pub struct Mail {
     pub fields: Items<Field>,
     pub body: Items<u8>,

@@ -8,7 +8,7 @@ use echo_text::trimmed;
 use std::alloc::{AllocError, Global};
 
 /// The place of a byte: its depth in comments, whether in a quoted string, whether after a backslash there.
-#[derive(Clone, Copy, Debug, PartialEq, Eq)]
+#[derive(Clone, Copy)]
 pub(crate) struct QuotingState {
     pub depth: usize,
     pub quoted: bool,

@@ -12,7 +12,7 @@ use base64::engine::general_purpose::STANDARD;
 use echo_addr::Items;
 use std::alloc::{AllocError, Global};
 
-#[derive(Clone, Copy, Debug, PartialEq, Eq)]
+#[derive(Clone, Copy)]
 pub(crate) enum Encoding {
     /// The bytes as they are: 7bit, 8bit and binary.
     Plain,

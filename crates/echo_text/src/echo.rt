@@ -1,5 +1,6 @@
-use crate::found;
+use crate::found::{first_id, last_tear, last_with};
 use crate::kept::{KeptView, Lines};
+use crate::words::{MSGID, ORIGIN, REPLY};
 use echo_addr::{Items, NetNode};
 use std::alloc::Global;
 use std::marker::Model;
@@ -7,7 +8,7 @@ use std::marker::Model;
 /// A parsed echomail text (FTS-0004). The tag has 1 to 60 bytes from `!` to `~` without small letters. No kept line
 /// has 00 or 0D; the kludge lines at their end are no SEEN-BY, PATH or blank lines. `seen` ascends without repeats;
 /// `path` has its entries in order, with repeats.
-#[derive(Debug, Drop, PartialEq, Eq, Hash)]
+#[derive(Debug, Drop, PartialEq, Eq)]
 pub struct Echo {
     pub tag: Items<u8>,
     pub kept: Lines,
@@ -80,31 +81,35 @@ impl Echo {
 
     /// The id of the message (FTS-0009): the text after the colon of the first MSGID line with more
     /// than blanks there, without blanks at both ends.
+    #[tactic(auto, unfolding(crate::specs::Echo::msgid_of))]
     pub fn msgid(&self) -> Option<&[u8]>
         ensures { option_copied result ≡ msgid_of self.now.kept }
     {
-        found::msgid(self.kept.as_text())
+        first_id(MSGID, self.kept.as_text())
     }
 
     /// The id of the message replied to, read from the REPLY lines in the same way (FTS-0009).
+    #[tactic(auto, unfolding(crate::specs::Echo::reply_of))]
     pub fn reply(&self) -> Option<&[u8]>
         ensures { option_copied result ≡ reply_of self.now.kept }
     {
-        found::reply(self.kept.as_text())
+        first_id(REPLY, self.kept.as_text())
     }
 
     /// The last tear line, without the line feeds at its front (FTS-0004).
+    #[tactic(auto, unfolding(crate::specs::Echo::tear_of))]
     pub fn tear(&self) -> Option<&[u8]>
         ensures { option_copied result ≡ tear_of self.now.kept }
     {
-        found::tear(self.kept.as_text())
+        last_tear(self.kept.as_text())
     }
 
     /// The last origin line, without the line feeds at its front (FTS-0004).
+    #[tactic(auto, unfolding(crate::specs::Echo::origin_of))]
     pub fn origin(&self) -> Option<&[u8]>
         ensures { option_copied result ≡ origin_of self.now.kept }
     {
-        found::origin(self.kept.as_text())
+        last_with(ORIGIN, self.kept.as_text())
     }
 
     /// The vectors of an echo that is needed no more.
@@ -132,33 +137,12 @@ impl<'a> FrontView<'a> {
 
 impl<'a> EchoView<'a> {
     ghost use Rattle.std.specs.Prelude.{◌≡◌, option_copied};
-    ghost use Rattle.echo_text.specs.Echo.{msgid_of, origin_of, reply_of, tear_of};
+    ghost use Rattle.echo_text.specs.Echo.{msgid_of};
 
     /// The id of the message, as `Echo` has it.
     pub fn msgid(&self) -> Option<&[u8]>
         ensures { option_copied result ≡ msgid_of self.now.kept }
     {
         self.kept.msgid()
-    }
-
-    /// The id of the message replied to, as `Echo` has it.
-    pub fn reply(&self) -> Option<&[u8]>
-        ensures { option_copied result ≡ reply_of self.now.kept }
-    {
-        self.kept.reply()
-    }
-
-    /// The last tear line, as `Echo` has it.
-    pub fn tear(&self) -> Option<&[u8]>
-        ensures { option_copied result ≡ tear_of self.now.kept }
-    {
-        self.kept.tear()
-    }
-
-    /// The last origin line, as `Echo` has it.
-    pub fn origin(&self) -> Option<&[u8]>
-        ensures { option_copied result ≡ origin_of self.now.kept }
-    {
-        self.kept.origin()
     }
 }

@@ -1,38 +1,10 @@
 ghost use Rattle.std.specs.Prelude.{◌≡◌, None, map, option_copied, filter};
 ghost use Rattle.std.specs.List.{last_or};
-ghost use Rattle.echo_text.specs.Echo.{first_after, id_in, msgid_of, origin_of, reply_of, tear_of};
+ghost use Rattle.echo_text.specs.Echo.{first_after, id_in};
 ghost use Rattle.echo_text.specs.Lines.{after_feeds, begins, is_tear, lines};
 
 use crate::lines::split_line;
-use crate::words::{MSGID, ORIGIN, REPLY, after_feeds, after_word, begins, is_tear, trimmed};
-
-#[tactic(auto, unfolding(crate::specs::Echo::msgid_of))]
-pub(crate) fn msgid(kept: &[u8]) -> Option<&[u8]>
-    ensures { option_copied result ≡ msgid_of (lines kept.now) }
-{
-    first_id(MSGID, kept)
-}
-
-#[tactic(auto, unfolding(crate::specs::Echo::reply_of))]
-pub(crate) fn reply(kept: &[u8]) -> Option<&[u8]>
-    ensures { option_copied result ≡ reply_of (lines kept.now) }
-{
-    first_id(REPLY, kept)
-}
-
-#[tactic(auto, unfolding(crate::specs::Echo::tear_of))]
-pub(crate) fn tear(kept: &[u8]) -> Option<&[u8]>
-    ensures { option_copied result ≡ tear_of (lines kept.now) }
-{
-    last_tear(kept)
-}
-
-#[tactic(auto, unfolding(crate::specs::Echo::origin_of))]
-pub(crate) fn origin(kept: &[u8]) -> Option<&[u8]>
-    ensures { option_copied result ≡ origin_of (lines kept.now) }
-{
-    last_with(ORIGIN, kept)
-}
+use crate::words::{after_feeds, after_word, begins, is_tear, trimmed};
 
 fn id_in<'a>(word: &[u8], line: &'a [u8]) -> Option<&'a [u8]>
     ensures { option_copied result ≡ id_in word.now line.now }
@@ -41,7 +13,7 @@ fn id_in<'a>(word: &[u8], line: &'a [u8]) -> Option<&'a [u8]>
     if id.is_empty() { None } else { Some(id) }
 }
 
-fn first_id<'a>(word: &[u8], kept: &'a [u8]) -> Option<&'a [u8]>
+pub(crate) fn first_id<'a>(word: &[u8], kept: &'a [u8]) -> Option<&'a [u8]>
     ensures { option_copied result ≡ first_after word.now (lines kept.now) }
 {
     let mut rest = kept;
@@ -55,7 +27,7 @@ fn first_id<'a>(word: &[u8], kept: &'a [u8]) -> Option<&'a [u8]>
     None
 }
 
-fn last_tear(kept: &[u8]) -> Option<&[u8]>
+pub(crate) fn last_tear(kept: &[u8]) -> Option<&[u8]>
     ensures { option_copied result ≡ last_or None (map after_feeds (filter is_tear (lines kept.now))) }
 {
     let mut found = None;
@@ -70,7 +42,7 @@ fn last_tear(kept: &[u8]) -> Option<&[u8]>
     found
 }
 
-fn last_with<'a>(word: &[u8], kept: &'a [u8]) -> Option<&'a [u8]>
+pub(crate) fn last_with<'a>(word: &[u8], kept: &'a [u8]) -> Option<&'a [u8]>
     ensures { option_copied result ≡ last_or None (map after_feeds (filter (begins word.now) (lines kept.now))) }
 {
     let mut found = None;

@@ -1,6 +1,7 @@
-use crate::found;
+use crate::found::{first_id, last_tear, last_with};
 use crate::lines::push_lines;
 use crate::tail::{kept_len, push_kept};
+use crate::words::{MSGID, ORIGIN, REPLY};
 use echo_addr::Items;
 use std::alloc::{AllocError, Global};
 use std::hash::{Hash, Hasher};
@@ -133,14 +134,8 @@ impl<'a> KeptView<'a> {
         KeptView { body, tail }
     }
 
-    /// A copy of the lines.
-    pub fn to_lines(&self, alloc: Global) -> Result<Lines, AllocError>
-        ensures { IfOk result (λ lines. lines ≡ self.now) }
-    {
-        self.lines_into(Vec::new(alloc))
-    }
-
-    pub(crate) fn lines_into(&self, mut text: Vec<u8>) -> Result<Lines, AllocError>
+    /// A copy of the lines in the vector, whose old content is dropped.
+    pub fn lines_into(&self, mut text: Vec<u8>) -> Result<Lines, AllocError>
         ensures { IfOk result (λ lines. lines ≡ self.now) }
     {
         let room = self.body.len().saturating_add(1);
@@ -151,34 +146,37 @@ impl<'a> KeptView<'a> {
         Ok(Lines::of_text(text))
     }
 
-    pub(crate) fn msgid(&self) -> Option<&[u8]>
+    /// The id of the message, as `Echo` has it.
+    pub fn msgid(&self) -> Option<&[u8]>
         ensures { option_copied result ≡ msgid_of self.now }
     {
-        match found::msgid(self.body) {
+        match first_id(MSGID, self.body) {
             Some(id) => Some(id),
-            None => found::msgid(self.tail),
+            None => first_id(MSGID, self.tail),
         }
     }
 
-    pub(crate) fn reply(&self) -> Option<&[u8]>
+    /// The id of the message replied to, as `Echo` has it.
+    pub fn reply(&self) -> Option<&[u8]>
         ensures { option_copied result ≡ reply_of self.now }
     {
-        match found::reply(self.body) {
+        match first_id(REPLY, self.body) {
             Some(id) => Some(id),
-            None => found::reply(self.tail),
+            None => first_id(REPLY, self.tail),
         }
     }
 
     /// The last tear line. A tail has none.
-    pub(crate) fn tear(&self) -> Option<&[u8]>
+    pub fn tear(&self) -> Option<&[u8]>
         ensures { option_copied result ≡ tear_of self.now }
     {
-        found::tear(self.body)
+        last_tear(self.body)
     }
 
-    pub(crate) fn origin(&self) -> Option<&[u8]>
+    /// The last origin line. A tail has none.
+    pub fn origin(&self) -> Option<&[u8]>
         ensures { option_copied result ≡ origin_of self.now }
     {
-        found::origin(self.body)
+        last_with(ORIGIN, self.body)
     }
 }

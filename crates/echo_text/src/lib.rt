@@ -25,12 +25,9 @@ pub use id_laws::{
     doubled_quotes_undone, ids_differ, one_id_is_spelled, test_of_ids, written_id_read_back,
 };
 pub use kept::{KeptView, Lines};
-pub use laws::{
-    kept_as_they_stand, one_reading, one_writing, readers_agree, refusals_are_answered,
-    written_text_is_read, written_text_read_back,
-};
+pub use laws::{kept_as_they_stand, one_reading, one_writing, written_text_read_back};
 pub use lines::{push_line, push_lines, split_line};
 pub use msgid::{MsgId, parse_hex};
 pub use reading::{read_into_room, read_text, view_front, view_text};
 pub use words::{after_feeds, after_word, begins, is_control, is_tear, trimmed};
-pub use writing::{overwrite_text, write_parts, write_text};
+pub use writing::{overwrite_text, write_text};

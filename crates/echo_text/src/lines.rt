@@ -40,7 +40,11 @@ pub fn push_line(text: &mut Vec<u8>, line: &[u8]) -> Result<(), AllocError>
 {
     let before = text.len();
     text.extend_from_slice(line)?;
-    push_return(text, before)
+    if text.push(RETURN).is_err() {
+        text.truncate(before);
+        return Err(AllocError);
+    }
+    Ok(())
 }
 
 /// Adds the lines of the bytes to a text, each with its 0D. Out of memory leaves the text as it was.
@@ -48,22 +52,10 @@ pub fn push_lines(text: &mut Vec<u8>, bytes: &[u8]) -> Result<(), AllocError>
     ensures ok { OnOk result (text.new.items ≡ text.old.items ++ flat_map ended (lines bytes.now)) }
     ensures err { OnErr result (text.new.items ≡ text.old.items) }
 {
-    let before = text.len();
+    if !is_ended(bytes) {
+        return push_line(text, bytes);
+    }
     text.extend_from_slice(bytes)?;
-    if is_ended(bytes) {
-        return Ok(());
-    }
-    push_return(text, before)
-}
-
-fn push_return(text: &mut Vec<u8>, before: usize) -> Result<(), AllocError>
-    ensures ok { OnOk result (text.new.items ≡ text.old.items ++ 13 ∷ []) }
-    ensures err { OnErr result (text.new.items ≡ take before text.old.items) }
-{
-    if text.push(RETURN).is_err() {
-        text.truncate(before);
-        return Err(AllocError);
-    }
     Ok(())
 }
 

@@ -1,9 +1,9 @@
 ghost use Rattle.std.specs.Prelude.{◌≡◌, ◌<◌, ◌^◌, IfOk};
-ghost use Rattle.echo_text.specs.{Echo.IsSetOf, Lines.lines, Tail.all_dropped, Tail.all_entries, Tail.lists_of};
+ghost use Rattle.echo_text.specs.{Lines.lines, Tail.all_dropped, Tail.all_entries, Tail.lists_of};
 
 use crate::lines::split_line;
 use crate::words::after_word;
-use echo_addr::{NetNode, add_list, put_in_order};
+use echo_addr::{NetNode, add_list};
 use std::alloc::AllocError;
 
 /// The entries of the lines that begin with the word, in order and in a vector, and how many tokens were dropped.
@@ -27,12 +27,4 @@ pub(crate) fn entries_into(
         rest = after;
     }
     Ok((found, dropped))
-}
-
-pub(crate) fn set_of(entries: Vec<NetNode>) -> Vec<NetNode>
-    ensures { IsSetOf result.items entries.items }
-{
-    let mut set = entries;
-    put_in_order(&mut set);
-    set
 }

@@ -6,10 +6,10 @@ use crate::echo::{Echo, EchoRoom, EchoView, FrontView};
 use crate::fault::TextFault;
 use crate::kept::KeptView;
 use crate::lines::split_line;
-use crate::listed::{entries_into, set_of};
+use crate::listed::entries_into;
 use crate::tail::split_tail;
 use crate::words::{PATH, SEEN_BY};
-use echo_addr::{Items, NetNode};
+use echo_addr::{Items, NetNode, put_in_order};
 use std::alloc::{AllocError, Global};
 
 /// The parts of the text (FTS-0004), and how many tokens of its SEEN-BY and PATH lines are no
@@ -121,10 +121,11 @@ fn lists_into(seen: Vec<NetNode>, path: Vec<NetNode>, text: &[u8]) -> Result<Lis
 {
     let (_, rest) = split_line(text);
     let (_, tail) = split_tail(rest);
-    let (seen, seen_dropped) = entries_into(seen, SEEN_BY, tail)?;
+    let (mut seen, seen_dropped) = entries_into(seen, SEEN_BY, tail)?;
     let (path, path_dropped) = entries_into(path, PATH, tail)?;
+    put_in_order(&mut seen);
     Ok(Lists {
-        seen: set_of(seen),
+        seen,
         path,
         dropped: seen_dropped + path_dropped,
     })

@@ -1,12 +1,10 @@
-ghost use Rattle.std.specs.Prelude.{AllPairs, IfOk, OnOk};
-ghost use Rattle.echo_addr.specs.ShortLines.{ComesBefore};
+ghost use Rattle.std.specs.Prelude.{IfOk, OnOk};
 ghost use Rattle.echo_text.specs.Echo.{TextOf};
 
 use crate::echo::Echo;
-use crate::kept::Lines;
 use crate::lines::push_line;
 use crate::words::AREA;
-use echo_addr::{NetNode, push_path, push_seen};
+use echo_addr::{push_path, push_seen};
 use std::alloc::{AllocError, Global};
 
 /// The text of an echo (FTS-0004): the AREA line, the kept lines, SEEN-BY and PATH lines, each with its 0D.
@@ -23,38 +21,9 @@ pub fn overwrite_text(text: &mut Vec<u8>, echo: &Echo) -> Result<(), AllocError>
     ensures { OnOk result (TextOf echo.now text.new.items) }
 {
     let tag = echo.tag.as_slice();
+    let kept = echo.kept.as_text();
     let seen = echo.seen.as_slice();
     let path = echo.path.as_slice();
-    write_parts_into(text, tag, &echo.kept, seen, path)
-}
-
-/// As `write_text`, of these parts. The entries of SEEN-BY ascend without repeats.
-pub fn write_parts(
-    alloc: Global,
-    tag: &[u8],
-    kept: &Lines,
-    seen: &[NetNode],
-    path: &[NetNode],
-) -> Result<Vec<u8>, AllocError>
-    requires { AllPairs ComesBefore seen.now }
-    ensures { IfOk result (λ text. TextOf (record { tag = tag.now; kept = kept.now; seen = seen.now; path = path.now }) text.items) }
-{
-    let mut text = Vec::new(alloc);
-    write_parts_into(&mut text, tag, kept, seen, path)?;
-    Ok(text)
-}
-
-fn write_parts_into(
-    text: &mut Vec<u8>,
-    tag: &[u8],
-    kept: &Lines,
-    seen: &[NetNode],
-    path: &[NetNode],
-) -> Result<(), AllocError>
-    requires { AllPairs ComesBefore seen.now }
-    ensures { OnOk result (TextOf (record { tag = tag.now; kept = kept.now; seen = seen.now; path = path.now }) text.new.items) }
-{
-    let kept = kept.as_text();
     let entries = seen.len().saturating_add(path.len());
     text.clear();
     text.reserve_exact(room_of(kept, entries))?;

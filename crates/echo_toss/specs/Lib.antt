@@ -6,7 +6,6 @@ pub mod Counts
 pub mod Exports
 pub mod PacketSteps
 pub mod Messages
-pub mod Stored
 pub mod Stores
 pub mod PacketsIn
 pub mod Ways

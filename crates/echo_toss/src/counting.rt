@@ -18,7 +18,7 @@ use model_steps::{Stamp, message_size};
 use std::alloc::{AllocError, Global};
 
 /// A packet that a scan will make: its address, and how many messages and bytes it will have.
-#[derive(Clone, Copy, Debug, PartialEq, Eq)]
+#[derive(Clone, Copy, Debug)]
 pub struct CountedPacket {
     pub to: Address,
     pub messages: usize,

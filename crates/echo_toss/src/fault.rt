@@ -1,32 +1,16 @@
 use crate::tally::Tally;
 use echo_addr::Address;
 use echo_packet::PacketFault;
-use std::alloc::AllocError;
-use thiserror::Error;
 
 /// Why the toss of a packet stopped.
-#[derive(Clone, Copy, Debug, PartialEq, Eq, Error)]
+#[derive(Clone, Copy)]
 pub enum TossCause {
     /// The packet is for this other system, and its messages were not read.
-    #[error("C1 NotForUs {0}")]
     NotForUs(Address),
     /// A growth was refused.
-    #[error("C2 Memory")]
     Memory,
     /// The packet is faulty, or the reader failed.
-    #[error("{0}")]
     Packet(PacketFault),
-}
-
-impl From<AllocError> for TossCause {
-    ghost use Rattle.std.specs.Prelude.{◌≡◌};
-    ghost use Rattle.echo_toss.specs.declared.fault.TossCause.TheVariants as stop;
-
-    ghost from_gives = { λ _ cause. cause ≡ stop.Memory };
-
-    fn from(_refused: AllocError) -> TossCause {
-        TossCause::Memory
-    }
 }
 
 impl From<PacketFault> for TossCause {
@@ -44,8 +28,7 @@ impl From<PacketFault> for TossCause {
 }
 
 /// A toss of a packet that stopped, and the outcomes of the messages before. These stay tossed.
-#[derive(Clone, Copy, Debug, PartialEq, Eq, Error)]
-#[error("{cause}")]
+#[derive(Clone, Copy)]
 pub struct TossFault {
     pub tally: Tally,
     pub cause: TossCause,

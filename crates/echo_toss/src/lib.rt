@@ -1,5 +1,5 @@
-//! The tosser: what one system does to its base. `post`, `toss_message`, `scan` and `purge` are the steps of
-//! model_steps on the whole system; `toss` makes the step of each message of a packet. `post_step`, `toss_step`,
+//! The tosser: what one system does to its base. `post`, `scan` and `purge` are the steps of model_steps on the
+//! whole system; `toss` makes the step of each message of a packet. `post_step`, `toss_step`,
 //! `toss_packet` and `scan_step` do so over any store and commit nothing. Begin with `tosser` and `tossing`.
 #![tactic(auto)]
 

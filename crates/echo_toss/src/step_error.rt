@@ -7,16 +7,13 @@ use base_store::StoreError;
 use echo_packet::PacketFault;
 use model_steps::PostFault;
 use std::alloc::AllocError;
-use thiserror::Error;
 
 /// Why a draft was not posted.
-#[derive(Clone, Copy, Debug, PartialEq, Eq, Error)]
+#[derive(Clone, Copy)]
 pub enum PostStepError {
     /// The draft is refused, perhaps because of a filed message.
-    #[error("{0}")]
     Refused(PostFault),
     /// The store failed.
-    #[error("{0}")]
     Store(StoreError),
 }
 
@@ -51,13 +48,11 @@ impl From<AllocError> for PostStepError {
 }
 
 /// Why nothing was scanned.
-#[derive(Clone, Copy, Debug, PartialEq, Eq, Error)]
+#[derive(Clone, Copy)]
 pub enum ScanStepError {
     /// A part of the stamp is out of its range.
-    #[error("S1 BadStamp")]
     BadStamp,
     /// The store failed.
-    #[error("{0}")]
     Store(StoreError),
 }
 
@@ -72,13 +67,11 @@ impl From<StoreError> for ScanStepError {
 }
 
 /// Why the toss of a packet into a store stopped.
-#[derive(Clone, Copy, Debug, PartialEq, Eq, Error)]
+#[derive(Clone, Copy)]
 pub enum TossStepError {
     /// The packet stopped it: it is for another system, it is faulty, or memory to read it was refused.
-    #[error("{0}")]
     Packet(TossCause),
     /// The store failed, or memory for the current message was refused.
-    #[error("{0}")]
     Store(StoreError),
 }
 
@@ -104,8 +97,7 @@ impl From<StoreError> for TossStepError {
 }
 
 /// A toss of a packet into a store that stopped, and the outcomes of the messages before.
-#[derive(Clone, Copy, Debug, PartialEq, Eq, Error)]
-#[error("{stop}")]
+#[derive(Clone, Copy)]
 pub struct StoppedToss {
     pub tally: Tally,
     pub stop: TossStepError,

@@ -1,15 +1,9 @@
-ghost use Rattle.std.specs.Prelude.{◌≡◌, IfErr, IfOk, IfSome, Result};
-ghost use Rattle.echo_packet.specs.Header.{AreBytes};
-ghost use Rattle.base_file.specs.{declared.fault.BaseFault.BaseFault as Fault, Base.IsBase, BaseFile.LoadOf, BaseFile.Loaded, BaseFile.is_countable, BaseFile.saved_bytes};
-ghost use Rattle.base_file.specs.{Loading.AnswersLoad, Loading.CountsLoad, Loading.FailsToLoad, Loading.TakesBase, Saving.CountsSaved, Saving.Saves, Saving.ReportsTooMany};
-ghost use Rattle.echo_toss.specs.Stored.{base_in};
+ghost use Rattle.base_file.specs.{Base.IsBase, BaseFile.is_countable, BaseFile.saved_bytes};
+ghost use Rattle.base_file.specs.{Saving.CountsSaved, Saving.Saves, Saving.ReportsTooMany};
 
 use crate::tosser::Tosser;
-use base_file::{Base, BaseFault};
-use base_store::MemoryStore;
-use disk_io::{Sink, Source};
-use echo_links::LinkFile;
-use std::alloc::Global;
+use base_file::BaseFault;
+use disk_io::Sink;
 use std::hash::BuildHasher;
 
 impl<S: BuildHasher> Tosser<S> {
@@ -22,28 +16,5 @@ impl<S: BuildHasher> Tosser<S> {
         ensures too_many { ReportsTooMany (is_countable self.now.base self.now.cursor) result }
     {
         self.store.base().save(writer)
-    }
-
-    /// The system of the link file with the base at the front of the reader. No byte after it is read.
-    pub fn load<R: Source>(
-        alloc: Global,
-        links: LinkFile,
-        reader: &mut R,
-        hasher: S,
-    ) -> Result<Tosser<S>, BaseFault>
-    where
-        S: Drop,
-        ensures links { IfOk result (λ system. system.file ≡ links) }
-        ensures taken { IfOk result (λ system. TakesBase system.base system.cursor (R.remaining reader.old) (R.remaining reader.new)) }
-        ensures fault { IfErr result (FailsToLoad (R.remaining reader.old) (R.remaining reader.new)) }
-        ensures only { (other : Result Loaded Fault) → IfSome (R.remaining reader.old) (λ bytes. AreBytes bytes → LoadOf bytes other → AnswersLoad (base_in result) other) }
-        ensures device { CountsLoad result (R.failures reader.old) (R.failures reader.new) }
-    {
-        let base = Base::load(alloc, reader, hasher)?;
-        Ok(Tosser {
-            alloc,
-            links,
-            store: MemoryStore::new(base),
-        })
     }
 }

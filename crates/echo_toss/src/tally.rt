@@ -4,7 +4,7 @@ ghost use Rattle.echo_toss.specs.Tallies.{all_counted, tally_with};
 use model_steps::Outcome;
 
 /// The outcomes of the messages of a packet: how many had each.
-#[derive(Clone, Copy, Debug, PartialEq, Eq)]
+#[derive(Clone, Copy)]
 pub struct Tally {
     pub filed: u64,
     pub known: u64,

@@ -2,11 +2,10 @@ ghost use Rattle.std.specs.Prelude.{◌≡◌, IfOk, IsErrOf, OnErr, OnOk};
 ghost use Rattle.disk_io.specs.Disk.{Honestly};
 ghost use Rattle.base_file.specs.Base.{Base};
 ghost use Rattle.base_store.specs.Store.{CommitsNothing, GoesOn, HasStoreCause, LooksOn, Undoes};
-ghost use Rattle.model_steps.specs.Tossing.{TossStep, toss_outcome, tossing};
+ghost use Rattle.model_steps.specs.Tossing.{toss_outcome, tossing};
 ghost use Rattle.echo_toss.specs.{Bounds.AddsTossed, Bounds.IsPastBound, Stores.LooksUnlessFiled, Stores.and_filed, Wanted.HasOwnKey, Wanted.IsVerdict};
 
 use crate::receiving::{Reading, key_in, read, received};
-use crate::tosser::Tosser;
 use base_store::{Store, StoreError};
 use echo_addr::Address;
 use echo_filed::{Filed, Key};
@@ -14,7 +13,6 @@ use echo_links::LinkFile;
 use echo_packet::Packed;
 use model_steps::Outcome;
 use std::alloc::{AllocError, Global};
-use std::hash::BuildHasher;
 
 /// Files a received message in the store, or answers the first outcome that applies. Nothing is committed.
 pub fn toss_step<T: Store>(
@@ -43,19 +41,6 @@ pub fn toss_step<T: Store>(
             Ok(Outcome::Filed)
         }
         Decision::Left(outcome) => Ok(outcome),
-    }
-}
-
-impl<S: BuildHasher> Tosser<S> {
-    /// Files a received message, or answers why not. The first outcome that applies is answered.
-    pub fn toss_message(&mut self, sender: Address, packed: &Packed) -> Result<Outcome, AllocError>
-        ensures { TossStep self.old sender packed.now result self.new }
-    {
-        match toss_step(self.alloc, &self.links, &mut self.store, sender, packed) {
-            Ok(outcome) => Ok(outcome),
-            // A base in memory fails only where a growth is refused.
-            Err(_) => Err(AllocError),
-        }
     }
 }
 

@@ -1,11 +1,11 @@
 -- A folder that was begun, as an open station.
-use Rattle.std.{proofs.Common.{◌≤◌, ◌⊎◌, ℕ, Bool, List, Result, Ok, Err, ⊎_elim, inl, inr, arith}, specs.Prelude.IfErr}
+use Rattle.std.{proofs.Common.{◌≤◌, ◌⊎◌, ℕ, Bool, List, Result, Ok, Err, ⊎_elim, inl, inr}, specs.Prelude.IfErr}
 use Rattle.base_file.specs.Base.{Base}
 use Rattle.disk_io.{specs.{Disk.{DiskState, Honestly}, Runs.{ChangesNothing, LeavesOnly}}, proofs.Moments.weaker_run}
-use Rattle.base_log.specs.Moments.{KeepsOutside}
+use Rattle.base_log.{proofs.Paths.not_own, specs.Moments.KeepsOutside}
 use Rattle.station_bases.specs.{Opening.IsBegun, Opening.IsLockedOut, Opening.IsOfFolder, Opening.IsShut, InFolder.IsFolderShut, InFolder.IsOwnLinks, InFolder.folder_place}
 use Rattle.base_folder.specs.Wrong.{IsSound}
-use Rattle.base_folder_store.specs.Held.{RepresentsBase, RepresentsBaseOrWasLeft}
+use Rattle.base_folder_store.specs.Held.{RepresentsBase, RepresentsBaseAlone, RepresentsBaseOrWasLeft}
 use Rattle.echo_links.specs.Links.{LinkFile}
 use Rattle.cmd_status.specs.declared.fault.Fault.{Fault}
 use Rattle.base_store.specs.Store.{StoreState}
@@ -14,11 +14,19 @@ use Rattle.station.specs.{Faults.FailsAt, Opening.IsNotOpened, Opening.IsOpened,
 
 module _ (keyed : ℕ → ℕ → List ℕ → ℕ) (path : List ℕ) (d0 : DiskState) where
   elsewhere_of : (d1 : DiskState) → KeepsOutside path d0 d1 → KeepsElsewhere (folder_place keyed path) d0 d1
-  elsewhere_of d1 outside = record { seen = outside.seen; named = outside.named; flushed = outside.flushed; alone = outside.alone; honest = outside.honest }
+  elsewhere_of d1 kept = record {
+    seen = λ m out. kept.seen m (not_own path m out);
+    named = λ m out. kept.named m (not_own path m out);
+    flushed = λ m out. kept.flushed m (not_own path m out);
+    alone = λ m out. kept.alone m (not_own path m out);
+    honest = kept.honest;
+  }
 
   -- the state that a crash leaves
   left_as : (d1 : DiskState) (base : Base) → LeavesOnly d0 d1 (RepresentsBaseOrWasLeft keyed path d0 base) → LeavesOnly d0 d1 (RepresentsOrWasLeft (folder_place keyed path) d0 base)
-  left_as d1 base run = grind (arith, weaker_run)
+  left_as d1 base run =
+      weaker_run d0 d1 (RepresentsBaseOrWasLeft keyed path d0 base) (RepresentsOrWasLeft (folder_place keyed path) d0 base) run
+      (λ c left. ⊎_elim (λ (alone : RepresentsBaseAlone keyed path d0 base c). inl (record { elsewhere = λ m out. alone.outside m (not_own path m out); represented = alone.represented })) (λ was. inr was) left)
 
   pub is_opened : (s : StoreState) (links : List ℕ) (strange : Bool) (file : LinkFile) (before now : ℕ) → s.is_ready → Honestly s.disk (IsBegun keyed links path strange d0 s file) → IsOfFolder keyed path d0 s → before ≤ now
       → IsOpened (folder_place keyed path) (λ file. IsOwnLinks links path strange d0 file) d0 before now s file

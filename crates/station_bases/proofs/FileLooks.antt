@@ -8,7 +8,7 @@ use Rattle.base_file.specs.{Base.Base, BaseFile.saved_bytes}
 use Rattle.base_store.specs.{Store.Commits, Store.HasStoreCause, Store.MayCommit, Store.StoreState, declared.store_error.StoreError.StoreError}
 use Rattle.base_store.specs.declared.store_error.StoreError.TheVariants as error
 use Rattle.base_folder_store.{specs.Answers.{Answers, HasReadCause}, proofs.{Causes.on_ok_from, Stated.not_damaged}}
-use Rattle.station_bases.specs.{Entries.CanLookUp, Entries.HoldEntries, Entries.file_bytes, InFile.IsHeld, InFile.IsOfFile, InFile.file_state, declared.entries.Entries.Entries}
+use Rattle.station_bases.specs.{Entries.CanFetch, Entries.HoldEntries, Entries.file_bytes, InFile.IsHeld, InFile.IsOfFile, InFile.file_state, declared.entries.Entries.Entries}
 use Rattle.station_bases.specs.declared.held.Held.{TheVariants.Apart, Held}
 use Rattle.station_bases.proofs.{EntryMore.few_held, EntryMore.held_loads, EntryMore.many_held, Written.may_commit, Written.put_now, Written.put_run}
 
@@ -36,7 +36,7 @@ module _ (S T : Type 0) (path own : List ℕ) (e f : Entries) (d0 d1 : DiskState
   says : (b : Base) → HoldEntries file e b → IsBaseGiven (Some (file_bytes file e)) b.messages b.cursor
   says b held = (length (saved_bytes b.messages b.cursor), held_loads file (file_bytes file e) e b refl held)
 
-  pub apart_committed : {A : Type 0} (r : Result A StoreError) → All (λ b. b ≢ 47) own → OnOk r (CanLookUp d1 path f) → Honestly d1 (OnOk r (HasOnDisk d1 path (file_bytes file e)))
+  pub apart_committed : {A : Type 0} (r : Result A StoreError) → All (λ b. b ≢ 47) own → OnOk r (CanFetch d1 path f) → Honestly d1 (OnOk r (HasOnDisk d1 path (file_bytes file e)))
       → Honestly d1 (OnOk r ((b : Base) → HoldEntries file e b → HoldEntries (bytes_in (d1.seen path)) f b)) → (d1.is_honest → d0.is_honest) → OnOk r (Commits before after)
   apart_committed (Ok done) plain can written held honest = record {
     ready = (plain, can);

@@ -1,4 +1,3 @@
-pub mod Ahead
 pub mod Opened
 pub mod Written
 pub mod Lent
@@ -10,4 +9,5 @@ pub mod EntryKeys
 pub mod EntryMore
 pub mod Loaded
 pub mod Reach
+pub mod Seats
 pub mod FileLooks

@@ -21,11 +21,10 @@ message_bytes file e = drop 16 (take e.end file) ++ e.waiting.items
 abbrev pub file_bytes : List ℕ → Entries → List ℕ
 file_bytes file e = head_bytes Second e.cursor (length e.keys.items / 16) ++ message_bytes file e
 
--- The file exists, with all messages that it is known to have. The buffer is a part of it.
+-- The file exists, with all messages that it is known to have.
 pub record IsWithinFile (disk : DiskState) (path : List ℕ) (e : Entries) : Type 0 where
   pub there : IsSome (disk.seen path)
   pub long : e.end ≤ length (bytes_in (disk.seen path))
-  pub ahead : IsPartOf (bytes_in (disk.seen path)) e.ahead
 
 -- The entries are whole, the chains are made of the first of them, and the messages end after the head of the file.
 pub record AreIndexed (e : Entries) : Type 0 where
@@ -38,6 +37,11 @@ pub record AreIndexed (e : Entries) : Type 0 where
 pub record CanLookUp (disk : DiskState) (path : List ℕ) (e : Entries) : Type 0 where
   pub indexed : AreIndexed e
   pub legible : Honestly disk (IsWithinFile disk path e)
+
+-- Messages can be fetched too: what was read ahead is a part of them.
+pub record CanFetch (disk : DiskState) (path : List ℕ) (e : Entries) : Type 0 where
+  pub look : CanLookUp disk path e
+  pub part : Honestly disk (IsPartOf (message_bytes (bytes_in (disk.seen path)) e) e.ahead)
 
 -- The entries and the bytes are those of these messages.
 abbrev pub AreEntriesOf : List ℕ → Entries → List Filed → ℕ → Type 0
@@ -70,10 +74,11 @@ pub record IsRefusedUncounted {T : Type 0} (e : Entries) (result : Result T Stor
 abbrev pub IsUnsaved : StoreError → Type 0
 IsUnsaved why = (why ≡ error.Memory) ⊎ (why ≡ error.TooMany)
 
--- The file and the digest are the same: only the waiting messages may have changed.
+-- The file and the digest are the same: messages may have been added to those that wait.
 pub record SameButAdded (old new : Entries) : Type 0 where
   pub digest : new.digest ≡ old.digest
   pub cursor : new.cursor ≡ old.cursor
   pub end : new.end ≡ old.end
   pub message : new.message ≡ old.message
   pub ahead : new.ahead ≡ old.ahead
+  pub kept : take (length old.waiting.items) new.waiting.items ≡ old.waiting.items

@@ -6,7 +6,7 @@ use Rattle.echo_filed.specs.Filed.{Filed}
 use Rattle.disk_atomic.specs.{Changes.DifferAt, StagingPaths.staging_path}
 use Rattle.cmd_status.specs.Inputs.{IsBaseGiven}
 use Rattle.base_store.specs.Store.{StoreState}
-use Rattle.station_bases.specs.{Entries.{CanLookUp, HasRoomFor, HoldEntries}, declared.held.Held.{Held, TheVariants.{Apart, Whole}}}
+use Rattle.station_bases.specs.{Entries.{CanFetch, HasRoomFor, HoldEntries}, declared.held.Held.{Held, TheVariants.{Apart, Whole}}}
 
 -- The path has a base file of this base, or there is no file and the base is empty.
 abbrev pub RepresentsInFile : List ℕ → Base → Files → Type 0
@@ -43,7 +43,7 @@ IsInMemory (Whole base) = Unit {0}
 
 -- Calls are allowed.
 abbrev pub IsWithinReach : {S T : Type 0} → DiskState → List ℕ → Held S T → Type 0
-IsWithinReach disk path (Apart e) = CanLookUp disk path e
+IsWithinReach disk path (Apart e) = CanFetch disk path e
 IsWithinReach disk path (Whole base) = Unit {0}
 
 -- The message that was fetched last; in memory it has this number.

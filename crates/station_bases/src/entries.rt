@@ -1,16 +1,16 @@
 //! A base file with its messages left in the file. In memory are the place and the digest of each, and chains for
 //! look-ups: some 24 bytes a message.
-ghost use Rattle.std.specs.Prelude.{◌≡◌, ◌≤◌, ◌<◌, ◌+◌, ◌-◌, ◌/◌, ◌++◌, List, length, IfOk, IsErrOf, IsSome, Some, drop, slice_get, take};
-ghost use Rattle.disk_io.specs.{Disk.Honestly, Disk.bytes_in, Runs.ChangesNothing, Runs.HasCause};
+ghost use Rattle.std.specs.Prelude.{◌≡◌, ◌≤◌, ◌<◌, ◌/◌, List, length, IsErrOf, Some, slice_get};
+ghost use Rattle.disk_io.specs.{Disk.Honestly, Disk.bytes_in, Runs.ChangesNothing};
 ghost use Rattle.echo_filed.specs.Filed.{Filed};
 ghost use Rattle.base_store.specs.Keys.{AreWhereRecorded};
 ghost use Rattle.base_folder_store.specs.{Answers.Answers, Answers.HasReadCause, Answers.IsStoredOf, Ahead.IsPartOf};
-ghost use Rattle.station_bases.specs.Entries.{CanLookUp, IsWithinFile, message_bytes};
+ghost use Rattle.station_bases.specs.Entries.{CanFetch, IsWithinFile, message_bytes};
 
 use base_file::MessageRoom;
-use base_folder_store::{ReadAhead, message_bounds, read_alone};
+use base_folder_store::{Extent, ReadAhead, read_at, stored_at};
 use base_store::{Chains, SipDigest, StoreError};
-use disk_io::{Disk, DiskError, read_part};
+use disk_io::Disk;
 use echo_filed::Filed;
 use std::alloc::Global;
 
@@ -34,39 +34,9 @@ pub struct Entries {
     pub(crate) chains: Chains,
     // The current message.
     pub(crate) message: Option<Filed>,
-    // The part of the file that was read ahead.
+    // The part of the messages that was read ahead.
     pub(crate) ahead: ReadAhead,
     pub(crate) room: MessageRoom,
-}
-
-// The bytes between two places behind the head of a file. The last ones wait to be written.
-fn read_between<D: Disk>(
-    alloc: Global,
-    disk: &mut D,
-    path: &[u8],
-    end: usize,
-    waiting: &[u8],
-    begins: usize,
-    ends: usize,
-) -> Result<Vec<u8>, DiskError>
-    requires there { Honestly (D.state disk.old) (IsSome ((D.state disk.old).seen path.now)) }
-    requires long { Honestly (D.state disk.old) (end ≤ length (bytes_in ((D.state disk.old).seen path.now))) }
-    requires head { 16 ≤ end }
-    requires order { begins ≤ ends }
-    requires within { ends ≤ end - 16 + length waiting.now }
-    ensures bytes { Honestly (D.state disk.new) (IfOk result (λ part. part.items
-        ≡ drop begins (take ends (drop 16 (take end (bytes_in ((D.state disk.old).seen path.now))) ++ waiting.now)))) }
-    ensures quiet { ChangesNothing (D.state disk.old) (D.state disk.new) }
-    ensures cause { HasCause (D.failures disk.old) (D.failures disk.new) result }
-{
-    let written = end - HEAD;
-    let from = begins.saturating_sub(written);
-    let to = ends.saturating_sub(written);
-    let first = begins.min(written);
-    let last = ends.min(written);
-    let mut part = read_part(alloc, disk, path, HEAD + first, HEAD + last)?;
-    part.extend_from_slice(&waiting[from..to])?;
-    Ok(part)
 }
 
 impl Entries {
@@ -108,51 +78,39 @@ impl Entries {
         ensures cause { HasReadCause (D.failures disk.old) (D.failures disk.new) result }
         ensures few { IsErrOf result StoreError.TooMany → ⊥ }
     {
-        let Some(all) = (self.end - HEAD).checked_add(self.waiting.len()) else {
-            return Err(StoreError::Memory);
+        let messages = Extent {
+            path,
+            head: HEAD,
+            end: self.end,
+            waiting: &self.waiting,
         };
-        let Some(at) = message_bounds(&self.keys, place, all) else {
-            return Err(StoreError::Damaged);
-        };
-        let waiting = &self.waiting;
-        let part = read_between(alloc, disk, path, self.end, waiting, at.begins, at.ends)?;
-        Ok(part)
+        stored_at(alloc, disk, messages, &self.keys, place)
     }
 
-    /// The message of this number, counted from 0. It is read ahead unless it waits to be written.
+    /// The message of this number, counted from 0. It is read ahead.
     pub(crate) fn read<D: Disk>(
         &mut self,
-        alloc: Global,
         disk: &mut D,
         path: &[u8],
         place: usize,
     ) -> Result<Filed, StoreError>
-        requires can { CanLookUp (D.state disk.old) path.now self.old }
+        requires can { CanFetch (D.state disk.old) path.now self.old }
         requires within { place < length self.old.keys.items / 16 }
         ensures read { Honestly (D.state disk.new) ((base : List Filed) → AreWhereRecorded base (message_bytes (bytes_in ((D.state disk.old).seen path.now)) self.old) self.old.keys.items
             → place < length base → Answers (λ message. slice_get base place ≡ Some message) result) }
-        ensures ahead { Honestly (D.state disk.new) (IsPartOf (bytes_in ((D.state disk.old).seen path.now)) self.new.ahead) }
+        ensures ahead { Honestly (D.state disk.new) (IsPartOf (message_bytes (bytes_in ((D.state disk.old).seen path.now)) self.old) self.new.ahead) }
         ensures same { self.new ≡ record self.old { ahead = self.new.ahead; room = self.new.room } }
         ensures quiet { ChangesNothing (D.state disk.old) (D.state disk.new) }
         ensures cause { HasReadCause (D.failures disk.old) (D.failures disk.new) result }
         ensures few { IsErrOf result StoreError.TooMany → ⊥ }
     {
-        let written = self.end - HEAD;
-        let Some(all) = written.checked_add(self.waiting.len()) else {
-            return Err(StoreError::Memory);
+        let messages = Extent {
+            path,
+            head: HEAD,
+            end: self.end,
+            waiting: &self.waiting,
         };
-        let Some(at) = message_bounds(&self.keys, place, all) else {
-            return Err(StoreError::Damaged);
-        };
-        if at.ends > written {
-            let bytes = self.stored(alloc, disk, path, place)?;
-            return read_alone(&mut self.room, &bytes);
-        }
-        let (begins, ends) = (HEAD + at.begins, HEAD + at.ends);
-        self.ahead.read(disk, path, self.end, begins, ends)?;
-        match self.ahead.part(begins, ends) {
-            Some(bytes) => read_alone(&mut self.room, bytes),
-            None => Err(StoreError::Damaged),
-        }
+        let (ahead, room) = (&mut self.ahead, &mut self.room);
+        read_at(disk, messages, ahead, room, &self.keys, place)
     }
 }

@@ -5,7 +5,7 @@ ghost use Rattle.echo_filed.specs.Filed.{has_id, key_of};
 ghost use Rattle.base_file.specs.Base.{Base, is_known};
 ghost use Rattle.base_store.specs.Store.{all_scanned, with_message};
 ghost use Rattle.base_folder_store.specs.{Ahead.IsPartOf, Answers.Answers, Answers.HasReadCause};
-ghost use Rattle.station_bases.specs.Entries.{AreIndexed, CanLookUp, HasRoomFor, HoldEntries, SameButAdded};
+ghost use Rattle.station_bases.specs.Entries.{AreIndexed, CanFetch, CanLookUp, HasRoomFor, HoldEntries, SameButAdded, message_bytes};
 
 use crate::entries::Entries;
 use base_folder_store::Id;
@@ -60,16 +60,15 @@ impl Entries {
     /// Makes the message of this number the current one.
     pub(crate) fn fetch<D: Disk>(
         &mut self,
-        alloc: Global,
         disk: &mut D,
         path: &[u8],
         place: usize,
     ) -> Result<(), StoreError>
-        requires can { CanLookUp (D.state disk.old) path.now self.old }
+        requires can { CanFetch (D.state disk.old) path.now self.old }
         ensures fetched { Honestly (D.state disk.new) ((base : Base) → HoldEntries (bytes_in ((D.state disk.old).seen path.now)) self.old base
             → place < length base.messages → Answers (λ done. self.new.message ≡ slice_get base.messages place) result) }
         ensures same { self.new ≡ record self.old { message = self.new.message; ahead = self.new.ahead; room = self.new.room } }
-        ensures ahead { Honestly (D.state disk.new) (IsPartOf (bytes_in ((D.state disk.old).seen path.now)) self.new.ahead) }
+        ensures ahead { Honestly (D.state disk.new) (IsPartOf (message_bytes (bytes_in ((D.state disk.old).seen path.now)) self.old) self.new.ahead) }
         ensures quiet { ChangesNothing (D.state disk.old) (D.state disk.new) }
         ensures cause { HasReadCause (D.failures disk.old) (D.failures disk.new) result }
         ensures few { IsErrOf result StoreError.TooMany → ⊥ }
@@ -77,7 +76,7 @@ impl Entries {
         if place >= self.count() {
             return Err(StoreError::Damaged);
         }
-        let message = self.read(alloc, disk, path, place)?;
+        let message = self.read(disk, path, place)?;
         let gone = self.message.replace(message);
         self.room.take_back(gone);
         Ok(())

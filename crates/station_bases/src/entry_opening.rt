@@ -5,7 +5,7 @@ ghost use Rattle.echo_filed.specs.{Filed.Filed, declared.stored.Version.TheVaria
 ghost use Rattle.base_file.specs.{Base.Base, Base.is_known, Pieces.BeginsWith};
 ghost use Rattle.base_folder_store.specs.Ahead.{IsPartOf as IsReadPart};
 ghost use Rattle.base_store.specs.Keys.{digested_key, entry};
-ghost use Rattle.station_bases.specs.{Entries.{AreEntriesOf, AreIndexed, CanLookUp, HoldEntries, entry_digest}, InFile.RepresentsInFile};
+ghost use Rattle.station_bases.specs.{Entries.{AreEntriesOf, AreIndexed, CanFetch, CanLookUp, HoldEntries, entry_digest}, InFile.RepresentsInFile};
 ghost use Rattle.station_bases.specs.EntryOpening.{AreJudged, HasJudged, IsPartOf, IsSoundIn, StaysIndexed};
 
 use crate::entries::{Entries, HEAD};
@@ -312,7 +312,7 @@ pub(crate) fn open_entries<D: Disk, T: MessageProgress>(
     watch: &T,
 ) -> Result<Option<Entries>, DiskError>
     requires there { Honestly (D.state disk.old) (IsSome ((D.state disk.old).seen path.now)) }
-    ensures can { IfOk result (λ found. IfSome found (CanLookUp (D.state disk.new) path.now)) }
+    ensures can { IfOk result (λ found. IfSome found (CanFetch (D.state disk.new) path.now)) }
     ensures held { Honestly (D.state disk.new) (IfOk result (λ found. IfSome found (λ entries. (base : Base) × RepresentsInFile path.now base (D.state disk.old).seen
         × HoldEntries (bytes_in ((D.state disk.old).seen path.now)) entries base))) }
     ensures quiet { ChangesNothing (D.state disk.old) (D.state disk.new) }

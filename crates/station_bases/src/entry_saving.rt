@@ -5,7 +5,7 @@ ghost use Rattle.disk_atomic.specs.{Changes.ChangesOnly, Changes.HasOnDisk, Keep
 ghost use Rattle.echo_filed.specs.declared.stored.Version.TheVariants.{Second};
 ghost use Rattle.base_file.specs.{Base.Base as TheBase, BaseFile.LoadOf, BaseFile.head_bytes};
 ghost use Rattle.base_folder_store.specs.Answers.{Answers, HasReadCause};
-ghost use Rattle.station_bases.specs.{Entries.CanLookUp, Entries.HoldEntries, Entries.IsRefusedUncounted, Entries.file_bytes, InFile.IsOfFile};
+ghost use Rattle.station_bases.specs.{Entries.CanFetch, Entries.CanLookUp, Entries.HoldEntries, Entries.IsRefusedUncounted, Entries.file_bytes, InFile.IsOfFile};
 
 use crate::entries::{Entries, HEAD};
 use base_file::{Base, BaseFault};
@@ -141,7 +141,7 @@ impl Entries {
         requires can { CanLookUp (D.state disk.old) path.now self.old }
         ensures written { Honestly (D.state disk.new) (OnOk result (HasOnDisk (D.state disk.new) path.now (file_bytes (bytes_in ((D.state disk.old).seen path.now)) self.old))) }
         ensures held { Honestly (D.state disk.new) (OnOk result ((base : TheBase) → HoldEntries (bytes_in ((D.state disk.old).seen path.now)) self.old base → HoldEntries (bytes_in ((D.state disk.new).seen path.now)) self.new base)) }
-        ensures can { OnOk result (CanLookUp (D.state disk.new) path.now self.new) }
+        ensures can { OnOk result (CanFetch (D.state disk.new) path.now self.new) }
         ensures any_moment { Honestly (D.state disk.new) (LeavesOnly (D.state disk.old) (D.state disk.new)
             (OneStepOn (Replaces path.now (staging_path path.now own.now) (file_bytes (bytes_in ((D.state disk.old).seen path.now)) self.old)) (D.state disk.old))) }
         ensures changes { ChangesOnly (IsOfFile path.now own.now) (D.state disk.old) (D.state disk.new) }

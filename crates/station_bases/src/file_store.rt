@@ -135,7 +135,7 @@ impl<'a, D: Disk, S: BuildHasher + Copy + Drop> Store for FileStore<'a, D, S> {
         let path = self.path;
         match &mut self.held {
             Held::Apart(entries) => {
-                let fetched = entries.fetch(self.alloc, &mut self.disk, path.as_bytes(), place);
+                let fetched = entries.fetch(&mut self.disk, path.as_bytes(), place);
                 note_look(&mut self.unread, &fetched);
                 fetched
             }

@@ -17,5 +17,4 @@ mod Sendings
 mod Reports
 mod Scans
 mod Puts
-mod Tries
 mod Runs

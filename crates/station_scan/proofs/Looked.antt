@@ -5,8 +5,8 @@ use Rattle.disk_atomic.specs.declared.finishing.Left.{Left}
 use Rattle.cmd_store.specs.declared.command_error.CommandError.{CommandError}
 use Rattle.model_steps.specs.PacketFiles.{PacketFile}
 use Rattle.station_scan.specs.Scanning.{AreSentOut, CommitsScan, IsTaken, PreparesScan, SendsOut, StopsScan}
-use Rattle.station_scan.specs.{Left.IsLeftOf, Publishing.IsOnDisk, declared.scan_error.ScanError.ScanError, declared.scan_error.ScanError.TheVariants.Staying}
-use Rattle.station_scan.proofs.{Lefts.finishes_none, Stops.put_wider, Stops.tells_as}
+use Rattle.station_scan.specs.{Left.IsLeftOf, Publishing.IsOnDisk, Sends.WasTriedFor, declared.scan_error.ScanError.ScanError, declared.scan_error.ScanError.TheVariants.Staying}
+use Rattle.station_scan.proofs.{Lefts.finishes_none, Staged.tried_before, Stops.put_wider, Stops.tells_as}
 
 -- the same files are seen
 pub same_seen : (a b : DiskState) → ChangesNothing a b → b.seen ≡ a.seen
@@ -64,10 +64,10 @@ module _ (Own : List ℕ → Type 0) (outbound own : List ℕ) (Stays Comes Stay
   looked_sent (Err cause) sent = tt
 
 -- then the packets were sent out
-pub looked_out : (Own : List ℕ → Type 0) (outbound own : List ℕ) (Stays Comes Stayed Came : Files → Type 0) (cursor : ℕ) (files : List PacketFile) (d0 d1 d2 : DiskState) → ChangesNothing d0 d1
+pub looked_out : {D : Type 0} (state : D → DiskState) (Own : List ℕ → Type 0) (outbound own : List ℕ) (Stays Comes Stayed Came : Files → Type 0) (cursor : ℕ) (files : List PacketFile) (d0 d1 d2 : DiskState) → ChangesNothing d0 d1
     → ((c : Files) → Stayed c → Stays c) → ((c : Files) → Came c → Comes c) → ((c : Files) → d0.may_leave c → Stays c) → (IsTrue : Files → Type 0) (some failed : Type 0) → (some → failed) → (result : Result (Unit {0}) ScanError)
-    → SendsOut (IsTrue d1.seen) some Own outbound own Stayed Came cursor files d1 d2 result → SendsOut (IsTrue d0.seen) failed Own outbound own Stays Comes cursor files d0 d2 result
-looked_out Own outbound own Stays Comes Stayed Came cursor files d0 d1 d2 quiet stays comes stood IsTrue some failed wider result sends =
+    → SendsOut state (IsTrue d1.seen) some Own outbound own Stayed Came cursor files d1 d2 result → SendsOut state (IsTrue d0.seen) failed Own outbound own Stays Comes cursor files d0 d2 result
+looked_out state Own outbound own Stays Comes Stayed Came cursor files d0 d1 d2 quiet stays comes stood IsTrue some failed wider result sends =
     let found = sends.found in
     let seen = same_seen d0 d1 quiet in
     record {
@@ -81,6 +81,9 @@ looked_out Own outbound own Stays Comes Stayed Came cursor files d0 d1 d2 quiet 
       left =
           tells_as _ _ _ _ _ _ _ _ (stays d2.seen) (λ none m at other. ⊎_elim (λ gone. inl gone) (λ same. inr (same ∙ quiet.seen m)) (none m at other))
           (comes d2.seen) (λ all. all) result sends.left;
+      tried =
+          ⊎_elim (λ (still : (c : Files) → d2.may_leave c → Stayed c). inl (λ c left. stays c (still c left)))
+          (λ (was : WasTriedFor state Own outbound own files d1). inr (tried_before state Own outbound own files d0 d1 (λ m out. quiet.seen m) was)) sends.tried;
     }
 
 -- or the scan stopped

@@ -7,12 +7,12 @@ use Rattle.disk_atomic.specs.{Finishing.FinishesEach, Finishing.IsOfLeft, Finish
 use Rattle.disk_atomic.specs.declared.placing_error.PlacingError.TheVariants.{Device, Taken}
 use Rattle.model_steps.specs.PacketFiles.{PacketFile}
 use Rattle.base_store.{specs.Store.StoreState, proofs.Runs.same_twice}
-use Rattle.station.specs.Beneath.{IsUsedAt}
+use Rattle.station.specs.Beneath.{HoldsAsBefore, IsUsedAt}
 use Rattle.station_scan.specs.{Left.{AreFreeLeft, EndsLeft, IsEnded, IsLeftOf, IsOfNameOff}, declared.scan_error.ScanError.TheVariants.Placing}
 use Rattle.station_scan.specs.Scanning.{AreSentOut, CommitsScan, IsTaken, IsTouched, PreparesScan, SendsOut}
 use Rattle.station_scan.specs.{Fitting.AreTaken, Publishing.IsOnDisk, Publishing.KeepsStoreBut, Sending.HasBytes, Sending.IsAtItsPath, Sending.IsFreeAt, Sending.IsStagingGone}
-use Rattle.station_scan.specs.{Sends.AreSentOn, Sends.IsLeftAs, Sends.IsOfThese, Sends.SendsThese, Sends.WritesStaging, Stops.IsOfPlacing, Stops.most, declared.scan_error.ScanError.ScanError}
-use Rattle.station_scan.proofs.{Published.keeps_only, Published.keeps_then, Published.keeps_wider, Stops.placing_why, Stops.put_wider, Stops.tells_as, Stops.tells_none}
+use Rattle.station_scan.specs.{Sends.AreSentOn, Sends.IsLeftAs, Sends.IsOfThese, Sends.SendsThese, Sends.WasTriedFor, Sends.WritesStaging, Stops.IsOfPlacing, Stops.most, declared.scan_error.ScanError.ScanError}
+use Rattle.station_scan.proofs.{Published.keeps_only, Published.keeps_then, Published.keeps_wider, Staged.tried_before, Stops.placing_why, Stops.put_wider, Stops.tells_as}
 
 -- a finished packet in the files seen
 pub is_ended : (cursor : ℕ) (d0 d1 : DiskState) (l : Left) → IsOver cursor d0 d1 l → IsEnded cursor d0.seen d1.seen l
@@ -47,14 +47,16 @@ module _ (Own : List ℕ → Type 0) (outbound own : List ℕ) (is_true failed :
     ended_moments = grind (arith, weaker_run, represented_ended)
 
     -- it stopped before
-    pub not_sent : (cause : PlacingError) → (cause ≡ Device → failed) → (cause ≡ Taken → AreFreeLeft Own outbound own s0.disk.seen → ⊥) → SendsOut is_true failed Own outbound own Stays Comes cursor files s0.disk s1.disk (Err (Placing cause))
-    not_sent cause device taken = record {
+    pub not_sent : {D : Type 0} (state : D → DiskState) → s1.disk.is_honest → (cause : PlacingError) → (cause ≡ Device → failed) → (cause ≡ Taken → AreFreeLeft Own outbound own s0.disk.seen → ⊥)
+        → SendsOut state is_true failed Own outbound own Stays Comes cursor files s0.disk s1.disk (Err (Placing cause))
+    not_sent state honest1 cause device taken = record {
       found = found;
       each = ends.each;
       sent = tt;
       crash = ended_moments;
       why = placing_why failed (IsTaken Own outbound own cursor found files s0.disk.seen) (most < cursor) cause device (λ is. inl (taken is));
-      left = tells_none _ _ _ _ (Placing cause) (used.settled first s0.disk.seen s1.disk.seen (λ m o. used.changes.seen m (λ is. is.1 (inside m o))) (s0.shown honest0 ready first was)) (λ m at other. inr (ends.changes.seen m other));
+      left = inl (used.settled first s0.disk.seen s1.disk.seen (λ m o. used.changes.seen m (λ is. is.1 (inside m o))) (s0.shown honest0 ready first was), λ m at other. inr (ends.changes.seen m other));
+      tried = inl (λ c left. (used.same.represented first c).0 (s1.stays honest1 used.holds.ready first (used.holds.committed first was) c left));
     }
 
     -- or staging files were written, and it stopped before the commit
@@ -129,10 +131,11 @@ module _ (Own : List ℕ → Type 0) (outbound own : List ℕ) (is_true failed :
     sent_if made are (Ok done) free sent = sent_out made are free sent
     sent_if made are (Err cause) free sent = tt
 
-    pub sends_out : (made : Base → List PacketFile) → made next ≡ files → (result : Result (Unit {0}) ScanError) → OnOk result (All (IsFreeAt outbound s1.disk.seen) files) → OnOk result (AreSentOn outbound own made s1 s2) → LeavesOnly s1.disk s2.disk (SendsThese s1 outbound own files first next)
+    pub sends_out : {D : Type 0} (state : D → DiskState) (made : Base → List PacketFile) → made next ≡ files → (result : Result (Unit {0}) ScanError) → OnOk result (All (IsFreeAt outbound s1.disk.seen) files) → OnOk result (AreSentOn outbound own made s1 s2) → LeavesOnly s1.disk s2.disk (SendsThese s1 outbound own files first next)
         → IfErr result (IsOfPlacing failed (AreTaken Own outbound own files s1.disk.seen) (most < cursor))
-        → IfErr result (IsLeftAs outbound own (s1.represented first) (s1.represented next) (λ m. ⊥) files s1.disk.seen s2.disk.seen) → SendsOut is_true failed Own outbound own Stays Comes cursor files s0.disk s2.disk result
-    sends_out made are result free sent run why left = record {
+        → IfErr result (IsLeftAs outbound own (s1.represented first) (s1.represented next) (λ m. ⊥) files s1.disk.seen s2.disk.seen)
+        → HoldsAsBefore s1 s2 ⊎ WasTriedFor state Own outbound own files s1.disk → SendsOut state is_true failed Own outbound own Stays Comes cursor files s0.disk s2.disk result
+    sends_out state made are result free sent run why left tried = record {
       found = these;
       each = ends.each;
       sent = sent_if made are result free sent;
@@ -141,6 +144,9 @@ module _ (Own : List ℕ → Type 0) (outbound own : List ℕ) (is_true failed :
       left =
           tells_as _ _ _ _ _ _ _ _ (used.same.represented first s2.disk.seen).0 (λ none m at other. ⊎_elim (λ gone. inl gone) (λ same. inr (same ∙ ends.changes.seen m other)) (none m at (λ never. never)))
           (used.same.represented next s2.disk.seen).0 (λ all. all) result left;
+      tried =
+          ⊎_elim (λ (h : HoldsAsBefore s1 s2). inl (λ c lasts. (used.same.represented first c).0 ((kept.same.represented first c).0 (s2.stays honest2 h.ready first (h.committed first (used.holds.committed first was)) c lasts))))
+          (λ (t : WasTriedFor state Own outbound own files s1.disk). inr (tried_before state Own outbound own files s0.disk s1.disk used.changes.seen t)) tried;
     }
 
 -- the paths that it touches

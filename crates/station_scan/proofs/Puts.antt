@@ -13,7 +13,7 @@ use Rattle.base_store.specs.Store.{StoreState, all_scanned}
 use Rattle.base_store.specs.declared.store_error.StoreError.TheVariants as error
 use Rattle.station.specs.Beneath.{IsUsedAt}
 use Rattle.station_scan.specs.Moved.{IsMoved, IsPutFrom, ScansFrom, StopsFrom, ReportsFrom, files_reported, from_number, left_cause, left_reported, reported_as}
-use Rattle.station_scan.specs.Scanning.{IsPutOn, IsTaken, ScansOnStore, SendsOut, StopsScan, TriesOn, packets_in}
+use Rattle.station_scan.specs.Scanning.{IsPutOn, IsTaken, ScansOnStore, SendsOut, StopsScan, packets_in}
 use Rattle.station_scan.specs.{Fitting.AreTaken, Left.AreFreeLeft, Left.EndsLeft, Left.IsLeftOf, Left.IsOfNameOff, Sending.IsStagingOfPacket, Sends.IsLeftAs, Sends.WasTriedFor}
 use Rattle.station_scan.specs.{Stops.IsOfPlacing, Stops.most, declared.pieces.ScanSource.ScanSource, declared.scan_error.ScanError.ScanError}
 use Rattle.station_scan.specs.declared.{scan_error.ScanError.TheVariants.Command, scan_error.ScanError.TheVariants.Placing, scan_error.ScanError.TheVariants.Staying, sending.Sending.Sending}
@@ -24,10 +24,6 @@ use Rattle.station_scan.proofs.{Lefts.finishes_none, Lists.among, Looked.same_se
 path_not_staging : (outbound own : List ℕ) (files : List PacketFile) (m n : List ℕ) → IsStagingOfPacket outbound own files m → All IsNameByte n → m ≡ outbound ++ n → ⊥
 path_not_staging outbound own files m n (inl (sent, has, plain, at)) is e = not_staging own n sent.name is (append_cancel_left outbound n (sent.name ++ ending own) (sym e ∙ at ∙ append_assoc outbound sent.name (ending own)))
 path_not_staging outbound own files m n (inr at) is e = trial_no_path outbound own n is (sym at ∙ e)
-
-stopped_ok : (P failed : Type 0) (before after : Files) (why : CommandError) (result : Result (Unit {0}) ScanError) → ReportsFrom failed before after why result → OnOk result P
-stopped_ok P failed before after why result (inl (is, gone)) = subst (λ (r : Result (Unit {0}) ScanError). OnOk r P) (sym is) tt
-stopped_ok P failed before after why result (inr (left, is, cause)) = subst (λ (r : Result (Unit {0}) ScanError). OnOk r P) (sym is) tt
 
 -- ---- leftover packets were finished
 
@@ -52,9 +48,9 @@ module _ (Own : List ℕ → Type 0) (to : Sending) (own_is : to.own.now ≡ dot
   pub moved_still : IsMoved s1 to.source.from base
   moved_still = record { ready = used.holds.ready; keeps = used.holds.keeps (all_scanned base) moved.keeps; committed = used.holds.committed base moved.committed; at = moved.at }
 
-  put_as : (s2 : StoreState) (made : Result (List PacketFile) CommandError) (result : Result (Unit {0}) ScanError) → IsPutOn Own outbound own IsTrue failed s0 s2 base packets made result
-      → IsPutOn Own outbound (dotted to.source.links.now.system) IsTrue failed s0 s2 base packets made result
-  put_as s2 made result put = subst (λ (o : List ℕ). IsPutOn Own outbound o IsTrue failed s0 s2 base packets made result) own_is put
+  put_as : {D : Type 0} (state : D → DiskState) (s2 : StoreState) (made : Result (List PacketFile) CommandError) (result : Result (Unit {0}) ScanError) → IsPutOn state Own outbound own IsTrue failed s0 s2 base packets made result
+      → IsPutOn state Own outbound (dotted to.source.links.now.system) IsTrue failed s0 s2 base packets made result
+  put_as state s2 made result put = subst (λ (o : List ℕ). IsPutOn state Own outbound o IsTrue failed s0 s2 base packets made result) own_is put
 
   module _ (ends : EndsLeft is_true Own outbound own cursor s0.disk s1.disk (Ok tt)) (s2 : StoreState) (honest2 : s2.disk.is_honest) where
     abbrev found : List Left
@@ -84,29 +80,16 @@ module _ (Own : List ℕ → Type 0) (to : Sending) (own_is : to.own.now ≡ dot
     }
 
     module _ {D : Type 0} (state : D → DiskState) (some : Type 0) (wider : some → failed) (out now : Output) (result : Result (Unit {0}) ScanError) where
-      put_made : (made : Result (List PacketFile) CommandError) → IsPutFrom state Own outbound own some s1 s2 base packets made result → IsPutOn Own outbound own IsTrue failed s0 s2 base packets made result
+      put_made : (made : Result (List PacketFile) CommandError) → IsPutFrom state Own outbound own some s1 s2 base packets made result → IsPutOn state Own outbound own IsTrue failed s0 s2 base packets made result
       put_made (Ok files) put =
-          subst (λ (n : ℕ). SendsOut is_true failed Own outbound own (s0.represented base) (s0.represented (all_scanned base)) n files s0.disk s2.disk result) same_cursor
-          (sends_out Own outbound own is_true failed cursor files s0 s1 inside used moved.ready honest0 base (all_scanned base) moved.committed ends s2 honest2 put.keeps moved.keeps (λ b. files) refl result put.free put.sent put.crash
+          subst (λ (n : ℕ). SendsOut state is_true failed Own outbound own (s0.represented base) (s0.represented (all_scanned base)) n files s0.disk s2.disk result) same_cursor
+          (sends_out Own outbound own is_true failed cursor files s0 s1 inside used moved.ready honest0 base (all_scanned base) moved.committed ends s2 honest2 put.keeps moved.keeps state (λ b. files) refl result put.free put.sent put.crash
           (subst (λ (n : ℕ). IfErr result (IsOfPlacing failed (AreTaken Own outbound own files s1.disk.seen) (most < n))) (sym same_cursor)
-          (put_wider some failed (AreTaken Own outbound own files s1.disk.seen) (AreTaken Own outbound own files s1.disk.seen) (most < base.cursor) result wider (λ t. t) put.why)) put.left)
+          (put_wider some failed (AreTaken Own outbound own files s1.disk.seen) (AreTaken Own outbound own files s1.disk.seen) (most < base.cursor) result wider (λ t. t) put.why)) put.left put.tried)
       put_made (Err why) put = subst (λ (n : ℕ). StopsScan is_true failed Own outbound own (s0.represented base) n packets s0.disk s2.disk why result) same_cursor (stops_put some wider packets why result put)
 
-      pub scans_put : ScansFrom state Own to some s1 s2 out now base result → ScansOnStore to.source.stamp Own outbound IsTrue failed s0 s2 out now to.source.links.now base result
-      scans_put scans = record { made = scans.made; answer = scans.answer; put = put_as s2 scans.made result (put_made scans.made scans.put); whole = scans.whole }
-
-      tried_at : (files : List PacketFile) → WasTriedFor state Own outbound own files s1.disk → WasTriedFor state Own outbound (dotted to.source.links.now.system) files s0.disk
-      tried_at files (inl none) = inl none
-      tried_at files (inr was) =
-          subst (λ (o : List ℕ). WasTriedFor state Own outbound o files s0.disk) own_is
-          (inr (tried_after state (IsOfNameOff Own outbound own) (IsOfNameOff Own outbound own) (staging_path outbound own) s0.disk s1.disk (λ m is. is) used.changes.seen was))
-
-      tries_made : (made : Result (List PacketFile) CommandError) → ScansOn to.source.stamp (state_in to.source.links.now base) out now made → IsPutFrom state Own outbound own some s1 s2 base packets made result
-          → OnOk result (TriesOn state to.source.stamp Own outbound s0 s2 out now to.source.links.now base)
-      tries_made made h1 h2 = grind (arith, on_ok_weaker, ⊎_elim, tried_at, stopped_ok)
-
-      pub tries_put : ScansFrom state Own to some s1 s2 out now base result → OnOk result (TriesOn state to.source.stamp Own outbound s0 s2 out now to.source.links.now base)
-      tries_put scans = tries_made scans.made scans.answer scans.put
+      pub scans_put : ScansFrom state Own to some s1 s2 out now base result → ScansOnStore state to.source.stamp Own outbound IsTrue failed s0 s2 out now to.source.links.now base result
+      scans_put scans = record { made = scans.made; answer = scans.answer; put = put_as state s2 scans.made result (put_made scans.made scans.put); whole = scans.whole }
 
   -- they were not, and the lines were printed or not
   module _ (cause : PlacingError) (result1 : Result (Unit {0}) PlacingError) (ends : EndsLeft is_true Own outbound own cursor s0.disk s1.disk result1) (s2 : StoreState) (quiet : ChangesNothing s1.disk s2.disk) (honest1 : s1.disk.is_honest)
@@ -114,9 +97,9 @@ module _ (Own : List ℕ → Type 0) (to : Sending) (own_is : to.own.now ≡ dot
     left_shown : s0.represented base s2.disk.seen
     left_shown = (used.same.represented base s2.disk.seen).0 (subst (λ (f : Files). s1.represented base f) (sym (same_seen s1.disk s2.disk quiet)) (s1.shown honest1 used.holds.ready base (used.holds.committed base moved.committed)))
 
-    left_sends : SendsOut is_true failed Own outbound own (s0.represented base) (s0.represented (all_scanned base)) cursor packets s0.disk s2.disk (Err (Placing cause))
-    left_sends =
-        let before = not_sent Own outbound own is_true failed cursor packets s0 s1 inside used moved.ready honest0 base (all_scanned base) moved.committed result1 ends cause device taken in
+    left_sends : {D : Type 0} (state : D → DiskState) → SendsOut state is_true failed Own outbound own (s0.represented base) (s0.represented (all_scanned base)) cursor packets s0.disk s2.disk (Err (Placing cause))
+    left_sends state =
+        let before = not_sent Own outbound own is_true failed cursor packets s0 s1 inside used moved.ready honest0 base (all_scanned base) moved.committed result1 ends state honest1 cause device taken in
         record {
           found = before.found;
           each = before.each;
@@ -124,6 +107,7 @@ module _ (Own : List ℕ → Type 0) (to : Sending) (own_is : to.own.now ≡ dot
           crash = then_nothing s0.disk s1.disk s2.disk _ before.crash quiet;
           why = before.why;
           left = subst (λ (f : Files). IsLeftAs outbound own (s0.represented base) (s0.represented (all_scanned base)) (IsOfLeft before.found) packets s0.disk.seen f (Placing cause)) (sym (same_seen s1.disk s2.disk quiet)) before.left;
+          tried = ⊎_elim (λ (stays : (c : Files) → s1.disk.may_leave c → s0.represented base c). inl (λ c left. stays c (quiet.no_more c left))) (λ (was : WasTriedFor state Own outbound own packets s0.disk). inr was) before.tried;
         }
 
     left_why : (stop : CommandError) → (IsErrOf (store_answer {A = Unit {0}} (Err stop)) error.Device → failed) → (why : PlacingError) → why ≡ cause → IsOfPlacing failed ⊥ ⊥ (Staying (left_cause why stop))
@@ -140,19 +124,19 @@ module _ (Own : List ℕ → Type 0) (to : Sending) (own_is : to.own.now ≡ dot
       reported = inr (left_cause cause stop, refl, left_why stop device_of cause refl);
     }
 
-    pub scans_left : (out now : Output) (reported : Result (Unit {0}) CommandError) → ScansOn to.source.stamp (state_in to.source.links.now (from_number to.source.from base)) out now (files_reported to.source (all_scanned base) reported)
-        → (IsErrOf (store_answer reported) error.Device → failed) → ScansOnStore to.source.stamp Own outbound IsTrue failed s0 s2 out now to.source.links.now base (left_reported cause reported)
-    scans_left out now reported h1 h2 = grind (arith, put_as, same_cursor, left_sends, left_stops)
+    pub scans_left : {D : Type 0} (state : D → DiskState) (out now : Output) (reported : Result (Unit {0}) CommandError) → ScansOn to.source.stamp (state_in to.source.links.now (from_number to.source.from base)) out now (files_reported to.source (all_scanned base) reported)
+        → (IsErrOf (store_answer reported) error.Device → failed) → ScansOnStore state to.source.stamp Own outbound IsTrue failed s0 s2 out now to.source.links.now base (left_reported cause reported)
+    scans_left state out now reported h1 h2 = grind (arith, put_as, same_cursor, left_sends, left_stops)
 
 -- ---- it stopped before
 
 -- the lines were printed or not, and nothing else was done
-pub scans_early : (Own : List ℕ → Type 0) (outbound : List ℕ) (source : ScanSource) (IsTrue : Files → Type 0) (failed : Type 0) (s0 s2 : StoreState) (base : Base) (out now : Output) (why : ScanError) (reported : Result (Unit {0}) CommandError)
+pub scans_early : {D : Type 0} (state : D → DiskState) (Own : List ℕ → Type 0) (outbound : List ℕ) (source : ScanSource) (IsTrue : Files → Type 0) (failed : Type 0) (s0 s2 : StoreState) (base : Base) (out now : Output) (why : ScanError) (reported : Result (Unit {0}) CommandError)
     → IsMoved s0 source.from base → s0.disk.is_honest → ChangesNothing s0.disk s2.disk → ((e : CommandError) → why ≡ Command e → ⊥)
     → IsOfPlacing failed (IsTaken Own outbound (dotted source.links.now.system) base.cursor [] (packets_in source.stamp source.links.now base) s0.disk.seen) (most < base.cursor) why
     → ScansOn source.stamp (state_in source.links.now (from_number source.from base)) out now (files_reported source (all_scanned base) reported) → (IsErrOf (store_answer reported) error.Damaged → ⊥)
-    → ScansOnStore source.stamp Own outbound IsTrue failed s0 s2 out now source.links.now base (reported_as why reported)
-scans_early Own outbound source IsTrue failed s0 s2 base out now why (Ok done) moved honest quiet not is answer whole = record {
+    → ScansOnStore state source.stamp Own outbound IsTrue failed s0 s2 out now source.links.now base (reported_as why reported)
+scans_early state Own outbound source IsTrue failed s0 s2 base out now why (Ok done) moved honest quiet not is answer whole = record {
   made = Ok (packets_in source.stamp source.links.now base);
   answer = subst (λ (n : ℕ). ScansOn source.stamp (state_in source.links.now (from_number n base)) out now (Ok (packets_in source.stamp source.links.now (from_number n base)))) moved.at answer;
   put = record {
@@ -164,10 +148,11 @@ scans_early Own outbound source IsTrue failed s0 s2 base out now why (Ok done) m
         (λ c left. inl (c, left, record { between = c; ends = finishes_none base.cursor [] c; writes = λ m other. refl; represented = s0.stays honest moved.ready base moved.committed c left }));
     why = is;
     left = tells_none _ _ _ _ why (subst (λ (f : Files). s0.represented base f) (sym (same_seen s0.disk s2.disk quiet)) (s0.shown honest moved.ready base moved.committed)) (λ m at other. inr (quiet.seen m));
+    tried = inl (λ c left. s0.stays honest moved.ready base moved.committed c (quiet.no_more c left));
   };
   whole = reported_whole why (Ok done) not whole;
 }
-scans_early Own outbound source IsTrue failed s0 s2 base out now why (Err stop) moved honest quiet not is answer whole = record {
+scans_early state Own outbound source IsTrue failed s0 s2 base out now why (Err stop) moved honest quiet not is answer whole = record {
   made = Err stop;
   answer = subst (λ (n : ℕ). ScansOn source.stamp (state_in source.links.now (from_number n base)) out now (Err stop)) moved.at answer;
   put = stops_quiet (IsTrue s0.disk.seen) failed Own outbound (dotted source.links.now.system) base.cursor _ s0 s2.disk base stop honest moved.ready moved.committed quiet;

@@ -20,7 +20,7 @@ use Rattle.station_scan.specs.Passing.{AreCounted, AreDropped, AreGoneOrSame, Ca
 use Rattle.station_scan.specs.{Fitting.AreTaken, Publishing.KeepsStoreBut, Scanning.IsTouched, Scanning.packets_in, Sending.IsStagingOfPacket, Sends.WritesStaging}
 use Rattle.station_scan.specs.{Stops.IsOfPlacing, Stops.IsUnplanned, Stops.most, declared.pieces.ScanSource.ScanSource, declared.publish_error.PublishError.PublishError}
 use Rattle.station_scan.specs.declared.{counting.LinkPacket.LinkPacket, scan_error.ScanError.{ScanError, TheVariants.{Command, Placing, Staying, TooFar}}}
-use Rattle.station_scan.{specs.declared.sending.Sending.Sending, proofs.Stops.{placing_why, put_whole, put_wider, tells_none}}
+use Rattle.station_scan.{specs.declared.sending.Sending.Sending, proofs.Stops.{placing_why, put_whole, put_wider}}
 use Rattle.station_scan.proofs.{Sendings.few_keeps, Sendings.sends_before, Sendings.writes_before, Files.files_are, Files.staging_files, Files.taken_files, Lefts.quiet_start}
 use Rattle.station_scan.proofs.{Passes.can_still, Passes.counts_are, Routes.staging_named, Published.keeps_nothing, Published.keeps_then, Published.keeps_wider}
 
@@ -101,8 +101,8 @@ module _ {D : Type 0} (state : D → DiskState) (Own : List ℕ → Type 0) (to 
       why =
           placing_why failed (AreTaken Own to.outbound.now to.own.now files s0.disk.seen) (most < base.cursor) cause device
           (λ is. subst (λ (l : List PacketFile). AreTaken Own to.outbound.now to.own.now l s0.disk.seen) (sym (files_are to base moved.at)) (taken_files to can.routes base Own s0.disk.seen (taken is)));
-      left = tells_none _ _ _ _ (Placing cause) (used.settled base s0.disk.seen s2.disk.seen (λ m o. used.changes.seen m (off m o)) (s0.shown honest0 moved.ready base moved.committed)) (λ m at other. gone m);
-      tried = tt;
+      left = inl (used.settled base s0.disk.seen s2.disk.seen (λ m o. used.changes.seen m (off m o)) (s0.shown honest0 moved.ready base moved.committed), λ m at other. gone m);
+      tried = inl used.holds;
     }
 
     pub scans_reported : (out now : Output) (cause : PlacingError) (reported : Result (Unit {0}) CommandError) → (cause ≡ placing.Device → failed) → (cause ≡ placing.Taken → IsTakenFor Own to base s0.disk.seen)
@@ -183,7 +183,12 @@ put_as_wider state Own outbound own some failed h1 s0 s1 base packets made resul
 -- more may have failed
 pub scans_wider : {D : Type 0} (state : D → DiskState) (Own : List ℕ → Type 0) (to : Sending) (some failed : Type 0) → (some → failed) → (s0 s1 : StoreState) (out now : Output) (base : Base) (result : Result (Unit {0}) ScanError)
     → ScansFrom state Own to some s0 s1 out now base result → ScansFrom state Own to failed s0 s1 out now base result
-scans_wider state Own to some failed wider s0 s1 out now base result scans = grind (arith, put_as_wider)
+scans_wider state Own to some failed wider s0 s1 out now base result scans = record {
+  made = scans.made;
+  answer = scans.answer;
+  put = put_as_wider state Own to.outbound.now to.own.now some failed wider s0 s1 base (packets_in to.source.stamp to.source.links.now base) scans.made result scans.put;
+  whole = scans.whole;
+}
 
 pub touched_after : (outbound : List ℕ) (s0 s1 s2 : StoreState) → KeepsStoreBut (IsTouched s0.is_own outbound) s0 s1 → KeepsStoreBut (IsTouched s1.is_own outbound) s1 s2 → KeepsStoreBut (IsTouched s0.is_own outbound) s0 s2
 touched_after outbound s0 s1 s2 one two = grind (arith, same_twice, keeps_then, keeps_wider, ⊎_elim)

@@ -9,9 +9,9 @@ use Rattle.cmd_status.specs.Devices.{Output}
 use Rattle.model_steps.specs.{PacketFiles.PacketFile, declared.stamp.Stamp.Stamp}
 use Rattle.base_store.specs.Store.{StoreState, all_scanned}
 use Rattle.cmd_store.specs.declared.command_error.CommandError.{CommandError}
-use Rattle.station.specs.{Place.{IsOfPlace, KeepsElsewhere, Place, RepresentsAlone, RepresentsOrWasLeft}, Opening.IsOpenFor}
-use Rattle.station_scan.specs.Scanning.{AreSentOut, CommitsScan, IsPutAs, IsOnItsWay, IsPreparing, IsPutIn, IsPutOn, IsScanOn, IsTaken, IsTouched, MayLeave, PreparesScan, ScansOnStore, SendsOut, StopsScan, StopsScanIn, ReportsStop, packets_in}
-use Rattle.station_scan.specs.{Fitting.AreFit, Left.AreAllLeft, Left.IsLeftOf, Publishing.IsOnDisk, Publishing.UnchangedExcept, Publishing.KeepsStoreBut, Sends.IsOfThese}
+use Rattle.station.specs.{Beneath.AreSettledByOwn, Place.{IsOfPlace, KeepsElsewhere, Place, RepresentsAlone, RepresentsOrWasLeft}, Opening.IsOpenFor}
+use Rattle.station_scan.specs.Scanning.{AreSentOut, CommitsScan, IsPutAs, IsOnItsWay, IsPreparing, IsPutIn, IsPutOn, IsScanOn, IsTaken, IsTouched, IsTriedIn, MayLeave, PreparesScan, ScansOnStore, SendsOut, StopsScan, StopsScanIn, ReportsStop, packets_in}
+use Rattle.station_scan.specs.{Fitting.AreFit, Left.AreAllLeft, Left.IsLeftOf, Publishing.IsOnDisk, Publishing.UnchangedExcept, Publishing.KeepsStoreBut, Sends.IsOfThese, Sends.WasTriedFor}
 use Rattle.station_scan.specs.declared.scan_error.ScanError.{ScanError, TheVariants.Staying}
 use Rattle.station_scan.proofs.{Lefts.finishes_none, Looked.same_seen, Published.keeps_nothing, Published.keeps_then, Published.keeps_wider, Stops.put_wider, Stops.tells_as}
 
@@ -44,7 +44,28 @@ module _ (Own Own2 : List ℕ → Type 0) (out : (m : List ℕ) → Own2 m → O
 pub elsewhere_keeps : (place : Place) (outbound : List ℕ) (d0 d1 : DiskState) → KeepsElsewhere place d0 d1 → UnchangedExcept (IsTouched place.is_own outbound) d0 d1
 elsewhere_keeps place outbound d0 d1 kept = grind arith
 
-module _ (place : Place) (d0 d2 : DiskState) (s1 s2 : StoreState) (begun : IsOpenFor place d0 s1) (of : IsOfPlace place d0 s1) (quiet : ChangesNothing s2.disk d2) (Own : List ℕ → Type 0)
+-- it was tried on the disk on which the store was opened, while the station's own files still held the base
+tried_in : {D : Type 0} (state : D → DiskState) (place : Place) (d0 d2 : DiskState) (s1 s2 : StoreState) → IsOfPlace place d0 s1 → ChangesNothing s2.disk d2 → (Own : List ℕ → Type 0) → ((m : List ℕ) → place.is_own m → Own m) → AreSettledByOwn s1
+    → (outbound own : List ℕ) (base : Base) → s1.represented base s1.disk.seen → (files : List PacketFile) → ((c : Files) → s2.disk.may_leave c → s1.represented base c) ⊎ WasTriedFor state Own outbound own files s1.disk
+    → ((c : Files) → d2.may_leave c → place.represents base c) ⊎ IsTriedIn state place outbound own base files d0
+tried_in state place d0 d2 s1 s2 of quiet Own in_own settled outbound own base shown files (inl still) = inl (λ c left. (of.represented base c).0 (still c (quiet.no_more c left)))
+tried_in state place d0 d2 s1 s2 of quiet Own in_own settled outbound own base shown files (inr (inl none)) = inr (inl none)
+tried_in state place d0 d2 s1 s2 of quiet Own in_own settled outbound own base shown files (inr (inr was)) =
+    inr (inr (
+      record {
+        from = was.from;
+        before = was.before;
+        after = was.after;
+        free = was.free;
+        given = was.given;
+        stays = was.stays;
+        at_once = was.at_once;
+        elsewhere = λ m off. was.elsewhere m (λ is. off (inr (own, is.0))) ∙ of.elsewhere.seen m (λ o. off (inl o));
+      },
+      (of.represented base (state was.after).seen).0 (settled base s1.disk.seen (state was.after).seen (λ m o. was.elsewhere m (λ is. is.1 (in_own m (of.own m o)))) shown),
+    ))
+
+module _ {D : Type 0} (state : D → DiskState) (place : Place) (d0 d2 : DiskState) (s1 s2 : StoreState) (begun : IsOpenFor place d0 s1) (of : IsOfPlace place d0 s1) (quiet : ChangesNothing s2.disk d2) (Own : List ℕ → Type 0)
     (own_in : (m : List ℕ) → Own m → place.is_own m) (in_own : (m : List ℕ) → place.is_own m → Own m) (outbound : List ℕ) where
   module _ (own : List ℕ) (base : Base) (represented : place.represents base d0.seen) where
     abbrev Stays : Files → Type 0
@@ -69,7 +90,11 @@ module _ (place : Place) (d0 d2 : DiskState) (s1 s2 : StoreState) (begun : IsOpe
           left
 
       prepared_on : (c : Files) → Prepares_on c → Prepares c
-      prepared_on c step = grind (arith, left_now)
+      prepared_on c step = (
+        step.0,
+        left_now d0 s1.disk (RepresentsOrWasLeft place d0 base) (begun.run base represented) step.0 step.1,
+        record { between = step.2.between; ends = step.2.ends; writes = step.2.writes; represented = (of.represented base c).0 step.2.represented },
+      )
 
       stopped_crash : LeavesOnly s1.disk s2.disk Prepares_on → LeavesOnly d0 d2 (λ c. d0.may_leave c ⊎ Prepares c)
       stopped_crash crash =
@@ -98,7 +123,7 @@ module _ (place : Place) (d0 d2 : DiskState) (s1 s2 : StoreState) (begun : IsOpe
       reported = stopped_reported files some failed why result wider stops.reported;
     }
 
-    module _ (files : List PacketFile) (is_true : Type 0) (some : Type 0) (result : Result (Unit {0}) ScanError) (sends : SendsOut is_true some Own outbound own (s1.represented base) (s1.represented (all_scanned base)) base.cursor files s1.disk s2.disk result) where
+    module _ (files : List PacketFile) (is_true : Type 0) (some : Type 0) (result : Result (Unit {0}) ScanError) (sends : SendsOut state is_true some Own outbound own (s1.represented base) (s1.represented (all_scanned base)) base.cursor files s1.disk s2.disk result) where
       abbrev found : List Left
       found = sends.found
 
@@ -124,7 +149,9 @@ module _ (place : Place) (d0 d2 : DiskState) (s1 s2 : StoreState) (begun : IsOpe
         between = with.between;
         ended = with.ended;
         staging_them = with.staging_them;
-        others = grind (arith, these_as, on_disk_still);
+        others = λ m other at.
+            with.others m (λ these. other (these_as Own place.is_own in_own outbound own files own_in m these))
+            (⊎_elim (λ on. inl (on_disk_still m (λ o. other (inl o)) on.0, on.1)) (λ ended. inr ended) at);
         either = ⊎_elim (λ none. inl ((of.represented base c).0 none.0, none.1)) (λ all. inr ((of.represented (all_scanned base) c).0 all.0, all.1, all.2)) with.either;
       })
 
@@ -154,9 +181,9 @@ module _ (place : Place) (d0 d2 : DiskState) (s1 s2 : StoreState) (begun : IsOpe
       }
       put_sent (Err why) sent = tt
 
-    put_in : (files : List PacketFile) (IsTrue : Files → Type 0) (some failed : Type 0) (result : Result (Unit {0}) ScanError) → (some → failed)
-        → SendsOut (IsTrue s1.disk.seen) some Own outbound own (s1.represented base) (s1.represented (all_scanned base)) base.cursor files s1.disk s2.disk result → IsPutIn place outbound own IsTrue failed d0 d2 base files result
-    put_in files IsTrue some failed result wider sends = record {
+    put_in : (files : List PacketFile) (IsTrue : Files → Type 0) (some failed : Type 0) (result : Result (Unit {0}) ScanError) → (some → failed) → AreSettledByOwn s1 → s1.represented base s1.disk.seen
+        → SendsOut state (IsTrue s1.disk.seen) some Own outbound own (s1.represented base) (s1.represented (all_scanned base)) base.cursor files s1.disk s2.disk result → IsPutIn state place outbound own IsTrue failed d0 d2 base files result
+    put_in files IsTrue some failed result wider settled shown sends = record {
       opened = s1.disk.seen;
       elsewhere = of.elsewhere.seen;
       found = sends.found;
@@ -170,20 +197,21 @@ module _ (place : Place) (d0 d2 : DiskState) (s1 s2 : StoreState) (begun : IsOpe
           (λ shown. subst Comes (sym (same_seen s2.disk d2 quiet)) ((of.represented (all_scanned base) s2.disk.seen).0 shown))
           (λ all k z lt. ⊎_elim (λ at. inl (quiet.seen _ ∙ at)) (λ at. inr (quiet.seen _ ∙ at)) (all k z lt)) result sends.left;
       why = put_wider some failed _ _ _ result wider (taken_as Own place.is_own in_own outbound own base.cursor sends.found files s1.disk.seen own_in) sends.why;
+      tried = tried_in state place d0 d2 s1 s2 of quiet Own in_own settled outbound own base shown files sends.tried;
     }
 
-    put_as : (IsTrue : Files → Type 0) (some failed : Type 0) (packets : List PacketFile) (made : Result (List PacketFile) CommandError) (result : Result (Unit {0}) ScanError) → (some → failed)
-        → IsPutOn Own outbound own IsTrue some s1 s2 base packets made result → IsPutAs place outbound own IsTrue failed d0 d2 base packets made result
-    put_as IsTrue some failed packets (Ok files) result wider sent = put_in files IsTrue some failed result wider sent
-    put_as IsTrue some failed packets (Err why) result wider stops = stopped_in packets IsTrue some failed why result wider stops
+    put_as : (IsTrue : Files → Type 0) (some failed : Type 0) (packets : List PacketFile) (made : Result (List PacketFile) CommandError) (result : Result (Unit {0}) ScanError) → (some → failed) → AreSettledByOwn s1 → s1.represented base s1.disk.seen
+        → IsPutOn state Own outbound own IsTrue some s1 s2 base packets made result → IsPutAs state place outbound own IsTrue failed d0 d2 base packets made result
+    put_as IsTrue some failed packets (Ok files) result wider settled shown sent = put_in files IsTrue some failed result wider settled shown sent
+    put_as IsTrue some failed packets (Err why) result wider settled shown stops = stopped_in packets IsTrue some failed why result wider stops
 
   -- the scan of a station
-  pub scanned_on : (stamp : Stamp) (IsTrue : Files → Type 0) (some failed : Type 0) (out now : Output) (file : LinkFile) (base : Base) (result : Result (Unit {0}) ScanError) → place.represents base d0.seen → (some → failed)
-      → ScansOnStore stamp Own outbound IsTrue some s1 s2 out now file base result → IsScanOn stamp place outbound IsTrue failed d0 d2 out now file base result
-  scanned_on stamp IsTrue some failed out now file base result represented wider scans = record {
+  pub scanned_on : (stamp : Stamp) (IsTrue : Files → Type 0) (some failed : Type 0) (out now : Output) (file : LinkFile) (base : Base) (result : Result (Unit {0}) ScanError) → place.represents base d0.seen → (some → failed) → AreSettledByOwn s1 → s1.represented base s1.disk.seen
+      → ScansOnStore state stamp Own outbound IsTrue some s1 s2 out now file base result → IsScanOn state stamp place outbound IsTrue failed d0 d2 out now file base result
+  scanned_on stamp IsTrue some failed out now file base result represented wider settled shown scans = record {
     made = scans.made;
     answer = scans.answer;
-    put = put_as (dotted file.system) base represented IsTrue some failed (packets_in stamp file base) scans.made result wider scans.put;
+    put = put_as (dotted file.system) base represented IsTrue some failed (packets_in stamp file base) scans.made result wider settled shown scans.put;
     whole = scans.whole;
   }
 

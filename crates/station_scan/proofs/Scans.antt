@@ -27,10 +27,10 @@ stops_quiet is_true failed Own outbound own cursor files s1 new base why honest 
   reported = inl (refl, λ m of. inr (quiet.seen m));
 }
 
-pub scans_stopped : (stamp : Stamp) (Own : List ℕ → Type 0) (outbound : List ℕ) (IsTrue : Files → Type 0) (failed : Type 0) (s1 s2 : StoreState) (out now : Output) (file : LinkFile) (base : Base) (why : CommandError) → s1.disk.is_honest → s1.is_ready
+pub scans_stopped : {D : Type 0} (state : D → DiskState) (stamp : Stamp) (Own : List ℕ → Type 0) (outbound : List ℕ) (IsTrue : Files → Type 0) (failed : Type 0) (s1 s2 : StoreState) (out now : Output) (file : LinkFile) (base : Base) (why : CommandError) → s1.disk.is_honest → s1.is_ready
     → s1.committed base → ChangesNothing s1.disk s2.disk → ScansOn stamp (state_in file base) out now (Err why) → (IsErrOf {T = Unit {0}} (Err (Command why)) (Command (Store Damaged)) → ⊥)
-    → ScansOnStore stamp Own outbound IsTrue failed s1 s2 out now file base (Err (Command why))
-scans_stopped stamp Own outbound IsTrue failed s1 s2 out now file base why honest ready is quiet answer whole = record {
+    → ScansOnStore state stamp Own outbound IsTrue failed s1 s2 out now file base (Err (Command why))
+scans_stopped state stamp Own outbound IsTrue failed s1 s2 out now file base why honest ready is quiet answer whole = record {
   made = Err why;
   answer = answer;
   put = stops_quiet (IsTrue s1.disk.seen) failed Own outbound (dotted file.system) base.cursor _ s1 s2.disk base why honest ready is quiet;
@@ -38,16 +38,16 @@ scans_stopped stamp Own outbound IsTrue failed s1 s2 out now file base why hones
 }
 
 -- as the packets are put, before the cursor was moved
-put_moved : (Own : List ℕ → Type 0) (outbound own : List ℕ) (IsTrue : Files → Type 0) (some failed : Type 0) → (some → failed) → (s1 sA s2 : StoreState) (base : Base) (packets : List PacketFile) (made : Result (List PacketFile) CommandError)
+put_moved : {D : Type 0} (state : D → DiskState) (Own : List ℕ → Type 0) (outbound own : List ℕ) (IsTrue : Files → Type 0) (some failed : Type 0) → (some → failed) → (s1 sA s2 : StoreState) (base : Base) (packets : List PacketFile) (made : Result (List PacketFile) CommandError)
     (result : Result (Unit {0}) ScanError) → IsSameStore s1 sA → ChangesNothing s1.disk sA.disk → ((c : Files) → sA.represented base c → s1.represented base c) → ((c : Files) → s1.disk.may_leave c → s1.represented base c)
-    → IsPutOn Own outbound own IsTrue some sA s2 base packets made result → IsPutOn Own outbound own IsTrue failed s1 s2 base packets made result
-put_moved Own outbound own IsTrue some failed h1 s1 sA s2 base packets made result h2 h3 h4 h5 h6 = grind (arith, looked_out, looked_stop)
+    → IsPutOn state Own outbound own IsTrue some sA s2 base packets made result → IsPutOn state Own outbound own IsTrue failed s1 s2 base packets made result
+put_moved state Own outbound own IsTrue some failed h1 s1 sA s2 base packets made result h2 h3 h4 h5 h6 = grind (arith, looked_out, looked_stop)
 
 -- the same of a scan once its cursor was moved
-pub scans_moved : (stamp : Stamp) (Own : List ℕ → Type 0) (outbound : List ℕ) (IsTrue : Files → Type 0) (some failed : Type 0) → (some → failed) → (s1 sA s2 : StoreState) (out now : Output) (file : LinkFile) (base : Base) (result : Result (Unit {0}) ScanError)
-    → s1.disk.is_honest → s1.is_ready → s1.committed base → IsSameStore s1 sA → ChangesNothing s1.disk sA.disk → ScansOnStore stamp Own outbound IsTrue some sA s2 out now file base result
-    → ScansOnStore stamp Own outbound IsTrue failed s1 s2 out now file base result
-scans_moved stamp Own outbound IsTrue some failed wider s1 sA s2 out now file base result honest ready is same quiet scans = grind (arith, put_moved)
+pub scans_moved : {D : Type 0} (state : D → DiskState) (stamp : Stamp) (Own : List ℕ → Type 0) (outbound : List ℕ) (IsTrue : Files → Type 0) (some failed : Type 0) → (some → failed) → (s1 sA s2 : StoreState) (out now : Output) (file : LinkFile) (base : Base) (result : Result (Unit {0}) ScanError)
+    → s1.disk.is_honest → s1.is_ready → s1.committed base → IsSameStore s1 sA → ChangesNothing s1.disk sA.disk → ScansOnStore state stamp Own outbound IsTrue some sA s2 out now file base result
+    → ScansOnStore state stamp Own outbound IsTrue failed s1 s2 out now file base result
+scans_moved state stamp Own outbound IsTrue some failed wider s1 sA s2 out now file base result honest ready is same quiet scans = grind (arith, put_moved)
 
 -- and what it touched
 pub moved_keeps : (outbound : List ℕ) (s1 sA s2 : StoreState) → IsSameStore s1 sA → ChangesNothing s1.disk sA.disk → KeepsStoreBut (IsTouched sA.is_own outbound) sA s2 → KeepsStoreBut (IsTouched s1.is_own outbound) s1 s2

@@ -132,7 +132,7 @@ module _ {D : Type 0} (state : D → DiskState) (Own : List ℕ → Type 0) (to 
     keeps = few_keeps out own files few into s0 s1 passed.used moved.ready honest0 base next moved.committed off;
     why = tt;
     left = shown_still;
-    tried = tt;
+    tried = inl passed.used.holds;
   }
 
   module _ (packets : List Outgoing) (made_for : AreFor to (is_made passed.sent) packets) (s2 : StoreState) (honest2 : s2.disk.is_honest) (f1 f2 : ℕ) (done : Result (Unit {0}) PublishError) {S : Type 0} (stores : S → StoreState)
@@ -175,7 +175,7 @@ module _ {D : Type 0} (state : D → DiskState) (Own : List ℕ → Type 0) (to 
           });
           why = why_sent (λ e. absurd (of_base_alone done placing.Taken alone e));
           left = tells_alone _ _ _ _ done alone (nothing (IsWhole out own s2.disk.seen));
-          tried = on_ok_done (HoldsAsBefore s0 s2 ⊎ WasTriedFor state Own out own files s0.disk) done (on_ok_any done (inr (inl (sym many ∙ none))));
+          tried = inr (inl (sym many ∙ none));
         }
 
     -- they were ended and published
@@ -264,6 +264,5 @@ module _ {D : Type 0} (state : D → DiskState) (Own : List ℕ → Type 0) (to 
           (λ m is. ⊎_elim (λ o. inl o) (λ of. inr (as_files (λ l. IsOfPacket out own l m) (of_packet to can.routes base packets for m of))) is) keeps);
       left = left_sent keeps.same stops;
       why = why_sent (λ e. absurd (taken e (growing_free to can.routes base packets for s1.disk honest1 grows)));
-      tried = on_ok_done (HoldsAsBefore s0 s2 ⊎ WasTriedFor state Own out own files s0.disk) done (on_ok_any done
-          (⊎_elim (λ (h : HoldsAsBefore s1 s2). inl (holds_still s0 s1 s2 passed.used.holds h)) (λ (was : IsTriedWith state packets to.trial.now s1.disk). inr (tried_first was)) tried));
+      tried = ⊎_elim (λ (h : HoldsAsBefore s1 s2). inl (holds_still s0 s1 s2 passed.used.holds h)) (λ (was : IsTriedWith state packets to.trial.now s1.disk). inr (tried_first was)) tried;
     }

@@ -3,14 +3,20 @@ use Rattle.std.{proofs.Common.{◌≡◌, ◌≢◌, ◌⊎◌, inl, inr, ⊎_el
 use Rattle.std.proofs.lemmas.{Bool.cases_lt, List.get_or_default, List.Elements.All-contains, List.Elements.Contains-get_or}
 use Rattle.disk_io.specs.{Disk.DiskState, Runs.ChangesNothing}
 use Rattle.disk_atomic.specs.Outgoing.{ArePlaced, IsAtStaging, IsStaged, IsStagingFlushed, staged_in}
-use Rattle.disk_atomic.specs.{Changes.ChangesOnly, Changes.DifferAt, Changes.HasOnDisk, Trying.Tries, Trying.WasTried, declared.outgoing.Outgoing.Outgoing}
+use Rattle.disk_atomic.specs.{Changes.ChangesOnly, Changes.DifferAt, Changes.HasOnDisk, Trying.Tries, Trying.WasTried, StagingPaths.staging_path, declared.outgoing.Outgoing.Outgoing}
 use Rattle.disk_atomic.proofs.{Changes.stays_on_disk, Changes.wider, Packets.path_not_staging, Parts.all_on_disk}
-use Rattle.station_scan.specs.Publishing.{AreOpen, IsTrial, IsTriedWith, IsWritten}
+use Rattle.station_scan.specs.{Left.IsOfNameOff, Publishing.AreOpen, Publishing.IsTrial, Publishing.IsTriedWith, Publishing.IsWritten, Sends.WasTriedFor}
 
 -- it was tried after a run at these paths
 pub tried_after : {D : Type 0} (state : D → DiskState) (few paths : List ℕ → Type 0) (trial : List ℕ) (d0 d1 : DiskState) → ((m : List ℕ) → few m → paths m) → DifferAt paths d0.seen d1.seen
     → WasTried state few trial d1 → WasTried state paths trial d0
 tried_after state few paths trial d0 d1 more run was = grind arith
+
+-- the same of the packets of a scan
+pub tried_before : {D F : Type 0} (state : D → DiskState) (Own : List ℕ → Type 0) (outbound own : List ℕ) (files : List F) (d0 d1 : DiskState) → DifferAt (IsOfNameOff Own outbound own) d0.seen d1.seen
+    → WasTriedFor state Own outbound own files d1 → WasTriedFor state Own outbound own files d0
+tried_before state Own outbound own files d0 d1 run (inl none) = inl none
+tried_before state Own outbound own files d0 d1 run (inr was) = inr (tried_after state (IsOfNameOff Own outbound own) (IsOfNameOff Own outbound own) (staging_path outbound own) d0 d1 (λ m is. is) run was)
 
 module _ (outbound trial : List ℕ) (packets : List Outgoing) (placed : ArePlaced outbound packets) (of : IsTrial outbound packets trial) where
   -- the path of one is none at which packets are staged

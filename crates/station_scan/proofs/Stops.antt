@@ -49,29 +49,22 @@ put_whole failed taken far (Err why) is damaged = let same : why ≡ Command (St
 -- nothing was committed, and no staging file stays
 pub tells_none : (stays none comes whole : Type 0) (why : ScanError) → stays → none → TellsLeft stays none comes whole why
 tells_none stays none comes whole (Staying left) first second = first
-tells_none stays none comes whole (Placing placing.Taken) first second = inl first
-tells_none stays none comes whole (Placing placing.Device) first second = inl (first, second)
-tells_none stays none comes whole (Placing placing.Memory) first second = inl (first, second)
-tells_none stays none comes whole TooFar first second = inl (first, second)
+tells_none stays none comes whole (Placing cause) first second = inl (first, second)
+tells_none stays none comes whole TooFar first second = (first, second)
 tells_none stays none comes whole (Command cause) first second = inl (first, second)
 
 module _ (stays none comes whole stays' none' comes' whole' : Type 0) (one : stays → stays') (two : none → none') (three : comes → comes') (four : whole → whole') where
-  tells_each : (stays × none) ⊎ (comes ⊎ whole) → (stays' × none') ⊎ (comes' ⊎ whole')
-  tells_each told = ⊎_elim (λ kept. inl (one kept.0, two kept.1)) (λ on. inr (⊎_elim (λ came. inl (three came)) (λ all. inr (four all)) on)) told
-
   pub tells_as : (result : Result (Unit {0}) ScanError) → IfErr result (TellsLeft stays none comes whole) → IfErr result (TellsLeft stays' none' comes' whole')
   tells_as (Ok done) told = tt
   tells_as (Err (Staying left)) told = one told
-  tells_as (Err (Placing placing.Taken)) told = ⊎_elim (λ kept. inl (one kept)) (λ came. inr (three came)) told
-  tells_as (Err (Placing placing.Device)) told = tells_each told
-  tells_as (Err (Placing placing.Memory)) told = tells_each told
-  tells_as (Err TooFar) told = tells_each told
-  tells_as (Err (Command cause)) told = tells_each told
+  tells_as (Err (Placing cause)) told = ⊎_elim (λ kept. inl (one kept.0, two kept.1)) (λ came. inr (three came)) told
+  tells_as (Err TooFar) told = (one told.0, two told.1)
+  tells_as (Err (Command cause)) told = ⊎_elim (λ kept. inl (one kept.0, two kept.1)) (λ all. inr (four all)) told
 
 -- without packets all are whole
 pub tells_alone : (stays none comes whole : Type 0) (done : Result (Unit {0}) PublishError) → IfErr done IsOfBase → whole → IfErr (scan_done done) (TellsLeft stays none comes whole)
 tells_alone stays none comes whole (Ok done) of all = tt
-tells_alone stays none comes whole (Err (OfBase cause)) of all = inr (inr all)
+tells_alone stays none comes whole (Err (OfBase cause)) of all = inr all
 tells_alone stays none comes whole (Err (Packets cause)) of all = absurd of
 tells_alone stays none comes whole (Err (Reading cause)) of all = absurd of
 tells_alone stays none comes whole (Err (Staging cause)) of all = absurd of
@@ -80,9 +73,7 @@ tells_alone stays none comes whole (Err (Staging cause)) of all = absurd of
 pub tells_published : (stays none comes whole : Type 0) (content : Base → Outgoing → List ℕ) (packets : List Outgoing) (trial : List ℕ) (old new : StoreState) (base : Base) (done : Result (Unit {0}) PublishError) → old.keeps base → (HoldsAsBefore old new → stays)
     → (Commits old new → comes) → (AreGone packets trial new.disk → none) → (All (IsFilled (content base) new.disk) packets → whole) → IfErr done (StopsPublishing content packets trial old new) → IfErr (scan_done done) (TellsLeft stays none comes whole)
 tells_published stays none comes whole content packets trial old new base (Ok done) kept same came gone filled stops = tt
-tells_published stays none comes whole content packets trial old new base (Err (Packets placing.Taken)) kept same came gone filled stops = ⊎_elim (λ h. inl (same h)) (λ c. inr (came c)) stops
-tells_published stays none comes whole content packets trial old new base (Err (Packets placing.Device)) kept same came gone filled stops = ⊎_elim (λ h. inl (same h.0, gone h.1)) (λ c. inr (inl (came c))) stops
-tells_published stays none comes whole content packets trial old new base (Err (Packets placing.Memory)) kept same came gone filled stops = ⊎_elim (λ h. inl (same h.0, gone h.1)) (λ c. inr (inl (came c))) stops
+tells_published stays none comes whole content packets trial old new base (Err (Packets cause)) kept same came gone filled stops = ⊎_elim (λ h. inl (same h.0, gone h.1)) (λ c. inr (came c)) stops
 tells_published stays none comes whole content packets trial old new base (Err (Reading cause)) kept same came gone filled stops = inl (same stops.0, gone stops.1)
 tells_published stays none comes whole content packets trial old new base (Err (Staging left)) kept same came gone filled stops = same stops
-tells_published stays none comes whole content packets trial old new base (Err (OfBase cause)) kept same came gone filled stops = inr (inr (filled (stops base kept)))
+tells_published stays none comes whole content packets trial old new base (Err (OfBase cause)) kept same came gone filled stops = inr (filled (stops base kept))

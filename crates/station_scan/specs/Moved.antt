@@ -32,7 +32,7 @@ pub record SendsFrom {D : Type 0} (state : D → DiskState) (Own : List ℕ → 
   pub keeps : KeepsStoreBut (IsOfThese old.is_own outbound own files) old new
   pub why : IfErr result (IsOfPlacing failed (AreTaken Own outbound own files old.disk.seen) (most < base.cursor))
   pub left : IfErr result (IsLeftAs outbound own (old.represented base) (old.represented (all_scanned base)) (λ m. ⊥) files old.disk.seen new.disk.seen)
-  pub tried : OnOk result (HoldsAsBefore old new ⊎ WasTriedFor state Own outbound own files old.disk)
+  pub tried : HoldsAsBefore old new ⊎ WasTriedFor state Own outbound own files old.disk
 
 -- It is reported why the scan stopped, and each staging file is gone or as before. Or it is reported that staging files may be left.
 abbrev pub ReportsFrom : Type 0 → Files → Files → CommandError → Result (Unit {0}) ScanError → Type 0

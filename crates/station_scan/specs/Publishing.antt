@@ -78,11 +78,9 @@ MayPublish content packets trial old new =
 abbrev pub AreGone : List Outgoing → List ℕ → DiskState → Type 0
 AreGone packets trial disk = All (IsStagingGone disk) packets × (disk.seen trial ≡ None)
 
--- The state after a failure. If a packet stopped it, the base is unchanged or committed. If unchanged, no staging file remains, unless a
--- path was in use. `Staging` reports that staging files remain. If the base stopped it, each packet is whole in its staging file, since the
--- base may be committed.
+-- The state after a failure. If a packet stopped it, the base is unchanged, and no staging file remains, or it is committed. `Staging`
+-- reports that staging files remain. If the base stopped it, each packet is whole in its staging file, since the base may be committed.
 abbrev pub StopsPublishing : (Base → Outgoing → List ℕ) → List Outgoing → List ℕ → StoreState → StoreState → PublishError → Type 0
-StopsPublishing content packets trial old new (Packets placing.Taken) = HoldsAsBefore old new ⊎ Commits old new
 StopsPublishing content packets trial old new (Packets cause) = (HoldsAsBefore old new × AreGone packets trial new.disk) ⊎ Commits old new
 StopsPublishing content packets trial old new (Reading cause) = HoldsAsBefore old new × AreGone packets trial new.disk
 StopsPublishing content packets trial old new (Staging cause) = HoldsAsBefore old new

@@ -66,13 +66,14 @@ IsTaken Own outbound own cursor found files seen =
     ⊎ ((between : Files) × All (IsEnded cursor seen between) found × DifferAt (IsOfLeft found) seen between × AreTaken Own outbound own files between)
 
 -- These packets and the new base are sent out. The leftover packets are `found`.
-pub record SendsOut (is_true failed : Type 0) (Own : List ℕ → Type 0) (outbound own : List ℕ) (Stays Comes : Files → Type 0) (cursor : ℕ) (files : List PacketFile) (old new : DiskState) (result : Result (Unit {0}) ScanError) : Type 0 where
+pub record SendsOut {D : Type 0} (state : D → DiskState) (is_true failed : Type 0) (Own : List ℕ → Type 0) (outbound own : List ℕ) (Stays Comes : Files → Type 0) (cursor : ℕ) (files : List PacketFile) (old new : DiskState) (result : Result (Unit {0}) ScanError) : Type 0 where
   pub found : List Left
   pub each : All (IsLeftOf is_true Own outbound own) found
   pub sent : OnOk result (AreSentOut is_true Own outbound own Comes cursor found files old.seen new)
   pub crash : LeavesOnly old new (λ c. OneStepOn (PreparesScan outbound own Stays cursor found files) old c ⊎ CommitsScan is_true Own outbound own (IsOnDisk old) Stays Comes cursor found files old.seen c)
   pub why : IfErr result (IsOfPlacing failed (IsTaken Own outbound own cursor found files old.seen) (most < cursor))
   pub left : IfErr result (IsLeftAs outbound own Stays Comes (IsOfLeft found) files old.seen new.seen)
+  pub tried : ((c : Files) → new.may_leave c → Stays c) ⊎ WasTriedFor state Own outbound own files old
 
 -- The files of the packets that a scan of this base makes.
 abbrev pub packets_in : Stamp → LinkFile → Base → List PacketFile
@@ -96,17 +97,17 @@ pub record StopsScan (is_true failed : Type 0) (Own : List ℕ → Type 0) (outb
   pub reported : ReportsStop failed outbound own files old.seen new.seen why result
 
 -- The packets that a scan of a store returned are sent out. Or the scan stopped while these packets were made.
-abbrev pub IsPutOn : (List ℕ → Type 0) → List ℕ → List ℕ → (Files → Type 0) → Type 0 → StoreState → StoreState → Base → List PacketFile → Result (List PacketFile) CommandError → Result (Unit {0}) ScanError → Type 0
-IsPutOn Own outbound own IsTrue failed old new base packets (Ok files) result =
-    SendsOut (IsTrue old.disk.seen) failed Own outbound own (old.represented base) (old.represented (all_scanned base)) base.cursor files old.disk new.disk result
-IsPutOn Own outbound own IsTrue failed old new base packets (Err why) result =
+abbrev pub IsPutOn : {D : Type 0} → (D → DiskState) → (List ℕ → Type 0) → List ℕ → List ℕ → (Files → Type 0) → Type 0 → StoreState → StoreState → Base → List PacketFile → Result (List PacketFile) CommandError → Result (Unit {0}) ScanError → Type 0
+IsPutOn state Own outbound own IsTrue failed old new base packets (Ok files) result =
+    SendsOut state (IsTrue old.disk.seen) failed Own outbound own (old.represented base) (old.represented (all_scanned base)) base.cursor files old.disk new.disk result
+IsPutOn state Own outbound own IsTrue failed old new base packets (Err why) result =
     StopsScan (IsTrue old.disk.seen) failed Own outbound own (old.represented base) base.cursor packets old.disk new.disk why result
 
 -- The result of a scan of a store that held this base, and had committed it.
-pub record ScansOnStore (stamp : Stamp) (Own : List ℕ → Type 0) (outbound : List ℕ) (IsTrue : Files → Type 0) (failed : Type 0) (old new : StoreState) (old_out new_out : Output) (file : LinkFile) (base : Base) (result : Result (Unit {0}) ScanError) : Type 0 where
+pub record ScansOnStore {D : Type 0} (state : D → DiskState) (stamp : Stamp) (Own : List ℕ → Type 0) (outbound : List ℕ) (IsTrue : Files → Type 0) (failed : Type 0) (old new : StoreState) (old_out new_out : Output) (file : LinkFile) (base : Base) (result : Result (Unit {0}) ScanError) : Type 0 where
   pub made : Result (List PacketFile) CommandError
   pub answer : ScansOn stamp (state_in file base) old_out new_out made
-  pub put : IsPutOn Own outbound (dotted file.system) IsTrue failed old new base (packets_in stamp file base) made result
+  pub put : IsPutOn state Own outbound (dotted file.system) IsTrue failed old new base (packets_in stamp file base) made result
   pub whole : IsErrOf result (Command (Store Damaged)) → ⊥
 
 -- A store that held this base, or the same with the cursor at its end, was full. The base was committed, and no other since.
@@ -131,8 +132,14 @@ IsOnItsWay is_true place outbound own old base found files opened c =
 abbrev pub MayLeave : Type 0 → Place → List ℕ → List ℕ → DiskState → Base → List Left → List PacketFile → Files → Files → Type 0
 MayLeave is_true place outbound own old base found files opened c = old.may_leave c ⊎ IsOnItsWay is_true place outbound own old base found files opened c
 
+-- If there are packets, it was tried before whether a file of the folder gets a second path. Until then nothing else was done outside the
+-- station's own files, which held the base from before.
+abbrev pub IsTriedIn : {D : Type 0} → (D → DiskState) → Place → List ℕ → List ℕ → Base → List PacketFile → DiskState → Type 0
+IsTriedIn state place outbound own base files old =
+    (length files ≡ 0) ⊎ ((tried : WasTried state (IsTouched place.is_own outbound) (staging_path outbound own) old) × place.represents base (state tried.after).seen)
+
 -- Once the leftover packets are finished, the packets of this base get their paths. The base gets its cursor at the end.
-pub record IsPutIn (place : Place) (outbound own : List ℕ) (IsTrue : Files → Type 0) (failed : Type 0) (old new : DiskState) (base : Base) (files : List PacketFile) (result : Result (Unit {0}) ScanError) : Type 0 where
+pub record IsPutIn {D : Type 0} (state : D → DiskState) (place : Place) (outbound own : List ℕ) (IsTrue : Files → Type 0) (failed : Type 0) (old new : DiskState) (base : Base) (files : List PacketFile) (result : Result (Unit {0}) ScanError) : Type 0 where
   -- The files once the station was open.
   pub opened : Files
   pub elsewhere : (m : List ℕ) → (place.is_own m → ⊥) → opened m ≡ old.seen m
@@ -144,6 +151,8 @@ pub record IsPutIn (place : Place) (outbound own : List ℕ) (IsTrue : Files →
   pub lasts : (c : Files) → new.may_leave c → IsOnItsWay (IsTrue opened) place outbound own old base found files opened c
   pub why : IfErr result (IsOfPlacing failed (IsTaken place.is_own outbound own base.cursor found files opened) (most < base.cursor))
   pub left : IfErr result (IsLeftAs outbound own (place.represents base) (place.represents (all_scanned base)) (IsOfLeft found) files opened new.seen)
+  -- Each crash leaves the base from before, or it was tried whether the packets can get their paths.
+  pub tried : ((c : Files) → new.may_leave c → place.represents base c) ⊎ IsTriedIn state place outbound own base files old
 
 -- The scan of this base stopped while its packets were made. The files hold the base from before, as they are seen and after any crash.
 pub record StopsScanIn (place : Place) (outbound own : List ℕ) (IsTrue : Files → Type 0) (failed : Type 0) (old new : DiskState) (base : Base) (files : List PacketFile) (why : CommandError) (result : Result (Unit {0}) ScanError) : Type 0 where
@@ -159,22 +168,22 @@ pub record StopsScanIn (place : Place) (outbound own : List ℕ) (IsTrue : Files
   pub reported : ReportsStop failed outbound own files opened new.seen why result
 
 -- The packets that the scan returned get their paths. Or the scan stopped while these packets were made.
-abbrev pub IsPutAs : Place → List ℕ → List ℕ → (Files → Type 0) → Type 0 → DiskState → DiskState → Base → List PacketFile → Result (List PacketFile) CommandError → Result (Unit {0}) ScanError → Type 0
-IsPutAs place outbound own IsTrue failed old new base packets (Ok files) result = IsPutIn place outbound own IsTrue failed old new base files result
-IsPutAs place outbound own IsTrue failed old new base packets (Err why) result = StopsScanIn place outbound own IsTrue failed old new base packets why result
+abbrev pub IsPutAs : {D : Type 0} → (D → DiskState) → Place → List ℕ → List ℕ → (Files → Type 0) → Type 0 → DiskState → DiskState → Base → List PacketFile → Result (List PacketFile) CommandError → Result (Unit {0}) ScanError → Type 0
+IsPutAs state place outbound own IsTrue failed old new base packets (Ok files) result = IsPutIn state place outbound own IsTrue failed old new base files result
+IsPutAs state place outbound own IsTrue failed old new base packets (Err why) result = StopsScanIn place outbound own IsTrue failed old new base packets why result
 
 -- The result of a scan of a station that held this base.
-pub record IsScanOn (stamp : Stamp) (place : Place) (outbound : List ℕ) (IsTrue : Files → Type 0) (failed : Type 0) (old new : DiskState) (old_out new_out : Output) (file : LinkFile) (base : Base) (result : Result (Unit {0}) ScanError) : Type 0 where
+pub record IsScanOn {D : Type 0} (state : D → DiskState) (stamp : Stamp) (place : Place) (outbound : List ℕ) (IsTrue : Files → Type 0) (failed : Type 0) (old new : DiskState) (old_out new_out : Output) (file : LinkFile) (base : Base) (result : Result (Unit {0}) ScanError) : Type 0 where
   pub made : Result (List PacketFile) CommandError
   pub answer : ScansOn stamp (state_in file base) old_out new_out made
-  pub put : IsPutAs place outbound (dotted file.system) IsTrue failed old new base (packets_in stamp file base) made result
+  pub put : IsPutAs state place outbound (dotted file.system) IsTrue failed old new base (packets_in stamp file base) made result
   pub whole : IsErrOf result (Command (Store Damaged)) → ⊥
 
 -- The scan was run with this link file, for each base that the files held.
-pub record IsScanRun (stamp : Stamp) (place : Place) (outbound : List ℕ) (IsTrue : Files → Type 0) (Reads : LinkFile → Type 0) (failed : Type 0) (old new : DiskState) (old_out new_out : Output) (result : Result (Unit {0}) ScanError) : Type 0 where
+pub record IsScanRun {D : Type 0} (state : D → DiskState) (stamp : Stamp) (place : Place) (outbound : List ℕ) (IsTrue : Files → Type 0) (Reads : LinkFile → Type 0) (failed : Type 0) (old new : DiskState) (old_out new_out : Output) (result : Result (Unit {0}) ScanError) : Type 0 where
   pub file : LinkFile
   pub read : Reads file
-  pub runs : (base : Base) → place.represents base old.seen → IsScanOn stamp place outbound IsTrue failed old new old_out new_out file base result
+  pub runs : (base : Base) → place.represents base old.seen → IsScanOn state stamp place outbound IsTrue failed old new old_out new_out file base result
   pub cause : IsErrOf result (Command (Store Device)) → failed
 
 -- The scan was not run: the station is shut, or the program stopped it.
@@ -185,24 +194,6 @@ pub record IsScanNotRun (place : Place) (Shut Stops : Fault → Type 0) (old new
 
 -- A scan of a station into this folder of packets, with this list of leftover packets. It is not run if the station is shut, as its fault
 -- says, or if the program stops it.
-abbrev pub ScansIn : Stamp → Place → List ℕ → (Files → Type 0) → (LinkFile → Type 0) → (Fault → Type 0) → (Fault → Type 0) → Type 0 → DiskState → DiskState → Output → Output → Result (Unit {0}) ScanError → Type 0
-ScansIn stamp place outbound IsTrue Reads Shut Stops failed old new old_out new_out result =
-    IsScanRun stamp place outbound IsTrue Reads failed old new old_out new_out result ⊎ IsScanNotRun place Shut Stops old new old_out new_out result
-
--- The base committed before is still committed. Or the scan first tried whether a file of the folder gets a second path,
--- before anything else was done there.
-abbrev pub TriesOn : {D : Type 0} → (D → DiskState) → Stamp → (List ℕ → Type 0) → List ℕ → StoreState → StoreState → Output → Output → LinkFile → Base → Type 0
-TriesOn state stamp Own outbound old new old_out new_out file base =
-    (new.is_ready × new.committed base)
-    ⊎ ((files : List PacketFile) × ScansOn stamp (state_in file base) old_out new_out (Ok files) × WasTriedFor state Own outbound (dotted file.system) files old.disk)
-
--- where there are packets it was tried, before anything else was done outside the station's own files, which held the base from before
-abbrev pub IsTriedIn : {D : Type 0} → (D → DiskState) → Place → List ℕ → List ℕ → Base → List PacketFile → DiskState → Type 0
-IsTriedIn state place outbound own base files old =
-    (length files ≡ 0) ⊎ ((tried : WasTried state (IsTouched place.is_own outbound) (staging_path outbound own) old) × place.represents base (state tried.after).seen)
-
--- Where a scan ended well each crash leaves the base from before, or it was tried for the packets that were made of that.
-abbrev pub ScanTries : {D : Type 0} → (D → DiskState) → Stamp → Place → List ℕ → (LinkFile → Type 0) → DiskState → DiskState → Output → Output → Type 0
-ScanTries state stamp place outbound Reads old new old_out new_out = (base : Base) → place.represents base old.seen
-    → ((c : Files) → new.may_leave c → place.represents base c)
-    ⊎ ((file : LinkFile) × Reads file × ((files : List PacketFile) × ScansOn stamp (state_in file base) old_out new_out (Ok files) × IsTriedIn state place outbound (dotted file.system) base files old))
+abbrev pub ScansIn : {D : Type 0} → (D → DiskState) → Stamp → Place → List ℕ → (Files → Type 0) → (LinkFile → Type 0) → (Fault → Type 0) → (Fault → Type 0) → Type 0 → DiskState → DiskState → Output → Output → Result (Unit {0}) ScanError → Type 0
+ScansIn state stamp place outbound IsTrue Reads Shut Stops failed old new old_out new_out result =
+    IsScanRun state stamp place outbound IsTrue Reads failed old new old_out new_out result ⊎ IsScanNotRun place Shut Stops old new old_out new_out result

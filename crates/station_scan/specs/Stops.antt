@@ -37,12 +37,13 @@ IsOfPlacing failed taken far (Staying disk.Device) = failed
 IsOfPlacing failed taken far (Staying disk.Memory) = Unit {0}
 IsOfPlacing failed taken far TooFar = far
 
--- What an error says of the packets that were not put. The base is as before, and no staging file stays. Or the base is committed,
--- or each packet is whole. If a path is in use, or staging files may be left, no more is said of these.
+-- What an error says of the packets that were not put. The base is as before, and no staging file stays, unless it says so. Or the base is
+-- committed. If the commit failed, each packet is whole.
 abbrev pub TellsLeft : Type 0 → Type 0 → Type 0 → Type 0 → ScanError → Type 0
 TellsLeft stays none comes whole (Staying left) = stays
-TellsLeft stays none comes whole (Placing placing.Taken) = stays ⊎ comes
-TellsLeft stays none comes whole _ = (stays × none) ⊎ (comes ⊎ whole)
+TellsLeft stays none comes whole (Placing cause) = (stays × none) ⊎ comes
+TellsLeft stays none comes whole (Command cause) = (stays × none) ⊎ whole
+TellsLeft stays none comes whole TooFar = stays × none
 
 -- The packets have no paths: there was no memory, or too many messages were scanned before.
 abbrev pub IsUnplanned : ℕ → ScanError → Type 0

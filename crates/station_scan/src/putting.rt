@@ -6,7 +6,7 @@ ghost use Rattle.cmd_status.specs.Devices.{output_of};
 ghost use Rattle.model_steps.specs.Stamps.{is_stamp};
 ghost use Rattle.station.specs.Beneath.{AreSettledByOwn, IsUsedAt};
 ghost use Rattle.station_scan.specs.Left.{AreFreeLeft, EndsLeft, IsOfNameOff};
-ghost use Rattle.station_scan.specs.{Moved.HasScanCause, Moved.IsMoved, Publishing.KeepsStoreBut, Scanning.IsTouched, Scanning.ScansOnStore, Scanning.TriesOn};
+ghost use Rattle.station_scan.specs.{Moved.HasScanCause, Moved.IsMoved, Publishing.KeepsStoreBut, Scanning.IsTouched, Scanning.ScansOnStore};
 
 use crate::jobs::FinishLeft;
 use crate::outgoing::send_on;
@@ -81,12 +81,9 @@ pub(crate) fn put_moved<
     requires stamp { is_stamp scan.old.stamp ≡ true }
     requires own { (m : List ℕ) → (P.Kept.state store.old.store).is_own m → P.Paths.is_own paths.now m }
     ensures scans { Honestly (P.Kept.state store.new.store).disk ((base : Base) → IsMoved (P.Kept.state store.old.store) from base
-        → ScansOnStore scan.old.stamp (P.Paths.is_own paths.now) scan.old.outbound.now (G.is_true scan.new.listing)
+        → ScansOnStore D.state scan.old.stamp (P.Paths.is_own paths.now) scan.old.outbound.now (G.is_true scan.new.listing)
         (Failed (P.Kept.failures store.old.store) (P.Kept.failures store.new.store) ⊎ Failed (G.failures scan.old.listing) (G.failures scan.new.listing)) (P.Kept.state store.old.store) (P.Kept.state store.new.store)
         (output_of W.contents W.failures W.holds out.old) (output_of W.contents W.failures W.holds out.new) links.now base result) }
-    ensures tried { Honestly (P.Kept.state store.new.store).disk ((base : Base) → IsMoved (P.Kept.state store.old.store) from base
-        → OnOk result (TriesOn D.state scan.old.stamp (P.Paths.is_own paths.now) scan.old.outbound.now (P.Kept.state store.old.store) (P.Kept.state store.new.store)
-        (output_of W.contents W.failures W.holds out.old) (output_of W.contents W.failures W.holds out.new) links.now base)) }
     ensures keeps { KeepsStoreBut (IsTouched (P.Kept.state store.old.store).is_own scan.old.outbound.now) (P.Kept.state store.old.store) (P.Kept.state store.new.store) }
     ensures listing_later { G.failures scan.old.listing ≤ G.failures scan.new.listing }
     ensures undamaged { OnOk result ((P.Kept.state store.old.store).is_sound → (P.Kept.state store.new.store).is_sound) }

@@ -4,7 +4,7 @@ ghost use Rattle.base_file.specs.Base.{Base};
 ghost use Rattle.disk_io.specs.{Device.Failed, Disk.Honestly, Runs.ChangesNothing};
 ghost use Rattle.cmd_status.specs.Devices.{output_of};
 ghost use Rattle.station.specs.{Beneath.AreSettledByOwn, Opening.AreFree, Opening.HaveFailed, Running.EndsSound, Running.NeedsBase};
-ghost use Rattle.station_scan.specs.Scanning.{IsScanFull, IsScanNotRun, IsTouched, ScanTries, ScansIn, ScansOnStore, TriesOn};
+ghost use Rattle.station_scan.specs.Scanning.{IsScanFull, IsScanNotRun, IsTouched, ScansIn, ScansOnStore};
 ghost use Rattle.station_scan.specs.Publishing.{UnchangedExcept, KeepsStoreBut};
 
 use crate::putting::put_moved;
@@ -64,14 +64,10 @@ pub fn run_scan<
     requires can { Honestly (D.state disk) (P.can_open station (D.state disk)) }
     ensures locked { P.is_locked station (L.held locks.new.links) (K.held locks.new.base) ⊎ ChangesNothing (D.state disk) (D.state result.disk) }
     ensures runs { let failed = HaveFailed (D.failures disk) (D.failures result.disk) (L.failures locks.old.links) (L.failures locks.new.links) (K.failures locks.old.base) (K.failures locks.new.base) in
-        Honestly (D.state result.disk) (ScansIn scan.old.stamp (P.place station) scan.old.outbound.now (G.is_true scan.new.listing) (P.reads station (D.state disk))
+        Honestly (D.state result.disk) (ScansIn D.state scan.old.stamp (P.place station) scan.old.outbound.now (G.is_true scan.new.listing) (P.reads station (D.state disk))
         (P.is_shut station failed (D.state disk) (D.state result.disk)) (Q.stops before.old before.new)
         (failed ⊎ Failed (G.failures scan.old.listing) (G.failures scan.new.listing)) (D.state disk) (D.state result.disk)
         (output_of W.contents W.failures W.holds out.old) (output_of W.contents W.failures W.holds out.new) result.done) }
-
-    // Packets are committed only after a file of their folder got a second path.
-    ensures tried { Honestly (D.state result.disk) (OnOk result.done (ScanTries D.state scan.old.stamp (P.place station) scan.old.outbound.now (P.reads station (D.state disk)) (D.state disk) (D.state result.disk)
-        (output_of W.contents W.failures W.holds out.old) (output_of W.contents W.failures W.holds out.new))) }
     ensures many { Honestly (D.state result.disk) ((base : Base) → (P.place station).represents base (D.state disk).seen
         → IsErrOf result.done (ScanError.Command (CommandError.Store StoreError.TooMany)) → IsScanFull P.Kept.state base) }
     ensures needs { Honestly (D.state result.disk) (NeedsBase (P.holds_base station (D.state disk).seen)
@@ -132,12 +128,9 @@ fn scan_kept<'a, 's, D: Disk, P: LendStation<'a, D>, G: ListStaged, T: MessagePr
     requires settled { (kept : P.Kept) → AreSettledByOwn (P.Kept.state kept) }
     requires own { (m : List ℕ) → (P.Kept.state store.old.store).is_own m → P.Paths.is_own paths.now m }
     ensures scans { Honestly (P.Kept.state store.new.store).disk ((base : Base) → (P.Kept.state store.old.store).keeps base → (P.Kept.state store.old.store).committed base
-        → ScansOnStore scan.old.stamp (P.Paths.is_own paths.now) scan.old.outbound.now (G.is_true scan.new.listing)
+        → ScansOnStore D.state scan.old.stamp (P.Paths.is_own paths.now) scan.old.outbound.now (G.is_true scan.new.listing)
         (Failed (P.Kept.failures store.old.store) (P.Kept.failures store.new.store) ⊎ Failed (G.failures scan.old.listing) (G.failures scan.new.listing)) (P.Kept.state store.old.store) (P.Kept.state store.new.store)
         (output_of W.contents W.failures W.holds out.old) (output_of W.contents W.failures W.holds out.new) links.now base result) }
-    ensures tried { Honestly (P.Kept.state store.new.store).disk ((base : Base) → (P.Kept.state store.old.store).keeps base → (P.Kept.state store.old.store).committed base
-        → OnOk result (TriesOn D.state scan.old.stamp (P.Paths.is_own paths.now) scan.old.outbound.now (P.Kept.state store.old.store) (P.Kept.state store.new.store)
-        (output_of W.contents W.failures W.holds out.old) (output_of W.contents W.failures W.holds out.new) links.now base)) }
     ensures keeps { KeepsStoreBut (IsTouched (P.Kept.state store.old.store).is_own scan.old.outbound.now) (P.Kept.state store.old.store) (P.Kept.state store.new.store) }
     ensures undamaged { OnOk result ((P.Kept.state store.old.store).is_sound → (P.Kept.state store.new.store).is_sound) }
     ensures later { P.Kept.failures store.old.store ≤ P.Kept.failures store.new.store }

@@ -1,9 +1,23 @@
-//! A program for measurements and trials that no command of echonet makes. Its first word is a module: `texts` is a
-//! benchmark that bench/texts.sh runs, and `world` writes the bases and packets that a replay leaves, for trials/. The
-//! other words are those of the module. Without words each runs once on a small input. It is proved to be safe and to
-//! end, and no more. Begin with `run`.
+//! What no contract says: tests of calls of the system and of answers that no command prints, and a program for trials
+//! and measurements. Its first word is a module: `texts` is a benchmark that bench/texts.sh runs, and `world` writes the
+//! bases and packets that a replay leaves, for trials/. The other words are those of the module. Without words each runs
+//! once on a small input. It is proved to be safe and to end, and no more. Begin with `run` and with `real_disk`.
 #![tactic(auto)]
 
+#[cfg(test)]
+mod bases;
+#[cfg(test)]
+mod checksums;
+#[cfg(test)]
+mod fault_lines;
+#[cfg(test)]
+mod on_real_files;
+#[cfg(test)]
+mod packets;
+#[cfg(test)]
+mod real_disk;
+#[cfg(test)]
+mod system_files;
 mod texts;
 mod world;
 

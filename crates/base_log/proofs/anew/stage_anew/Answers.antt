@@ -5,7 +5,7 @@ use Rattle.disk_io.proofs.Moments.{then_nothing, left_now}
 use Rattle.base_log.specs.{declared.log.End.End, Names.folder_of, Names.log_of, Names.messages_of, Names.keys_of, Moments.StagesOnly, Moments.RepresentsAlone}
 use Rattle.base_log.specs.Standing.{BaseBytes, Represents, base_at}
 use Rattle.base_log.proofs.Keeping.{log_moved, on_disk_but_one, on_disk_quiet, outside_but_one, outside_quiet, outside_twice}
-use Rattle.base_log.proofs.Paths.{keys_not_messages, keys_of-injective, log_not_keys, log_not_messages, messages_in, messages_not_keys, messages_of-injective}
+use Rattle.base_log.proofs.Paths.{keys_not_messages, keys_of-injective, log_not_keys, log_not_messages, messages_own, messages_not_keys, messages_of-injective}
 use Rattle.base_log.proofs.{Calls.Made, Calls.but_one_call, Made.keys_run, Made.messages_run, Made.outside_both, Renewed.alone_run, Renewed.same_base, Rested.rest_same}
 use Rattle.base_log.proofs.anew.stage_anew.Goals.{After-create, After-create-2}
 use Rattle.base_log.proofs.anew.stage_anew.Given as given
@@ -53,7 +53,7 @@ one_made g c =
         any_moment = λ honest.
             let rest = c.requires.settled (one.time.honest honest) in
             alone_run d0 path c.args.end rest d1 (messages_run d0 path c.args.end rest c.args.number c.requires.free.other d1 one);
-        outside = outside_but_one path d0 d1 (messages_of path c.args.number) (messages_in path c.args.number) (but_one_call d0 d1 (messages_of path c.args.number) one);
+        outside = outside_but_one path d0 d1 (messages_of path c.args.number) (messages_own path c.args.number) (but_one_call d0 d1 (messages_of path c.args.number) one);
       };
       others = λ m ne nk. one.others m ne;
     }

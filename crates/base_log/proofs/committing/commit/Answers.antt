@@ -4,7 +4,7 @@ use Rattle.base_log.specs.{Names.folder_of, Names.log_of, Log.body_of}
 use Rattle.disk_io.proofs.Moments.{then_nothing}
 use Rattle.base_log.proofs.Gates.{recorded_by-body_of, P, Ready, run_at_first, ready, run_record, done_record, run_gate, done_gate, same_gate}
 use Rattle.base_log.proofs.LeftOutside.{KeepsAround, around_changed, around_quiet, around_twice, left_quiet}
-use Rattle.base_log.proofs.{Keeping.outside_quiet, Paths.log_in, committing.commit.Goals.After-sync-2, committing.commit.Goals.After-write_synced, committing.commit.Goals.After-write_synced-2}
+use Rattle.base_log.proofs.{Keeping.outside_quiet, Paths.log_own, committing.commit.Goals.After-sync-2, committing.commit.Goals.After-write_synced, committing.commit.Goals.After-write_synced-2}
 use Rattle.base_log.proofs.committing.commit.Given as given
 use Rattle.base_log.proofs.committing.commit.Goals as goal
 
@@ -59,10 +59,10 @@ synced_around : (g : given.Over) (c : After-sync-2 g) → KeepsAround (folder_of
 synced_around g c = around_twice (around_quiet c.sync.ensures.quiet) (around_quiet c.sync-2.ensures.quiet)
 
 record_around : (g : given.Over) (c : After-write_synced g) → KeepsAround (folder_of c.args.names.now) (g.D.Disk.state c.sync-2.new.self) (g.D.Disk.state c.write_synced.new.disk)
-record_around g c = around_changed (TornWrite (c.args.end.records_len + 1) (length c.record_of.result)) (log_in (folder_of c.args.names.now)) (record_kept g c) (record_run g c)
+record_around g c = around_changed (TornWrite (c.args.end.records_len + 1) (length c.record_of.result)) (log_own (folder_of c.args.names.now)) (record_kept g c) (record_run g c)
 
 gate_around : (g : given.Over) (c : After-write_synced-2 g) → KeepsAround (folder_of c.args.names.now) (g.D.Disk.state c.write_synced.new.disk) (g.D.Disk.state c.write_synced-2.new.disk)
-gate_around g c = around_changed (TornWrite c.args.end.records_len 1) (log_in (folder_of c.args.names.now)) (gate_kept g c) (gate_run g c)
+gate_around g c = around_changed (TornWrite c.args.end.records_len 1) (log_own (folder_of c.args.names.now)) (gate_kept g c) (gate_run g c)
 
 pub returns-in_err-sync-clause-outside : goal.returns-in_err-sync-clause-outside
 returns-in_err-sync-clause-outside g c = outside_quiet (folder_of c.args.names.now) (g.D.Disk.state c.args.disk.now) (g.D.Disk.state c.sync.new.self) c.sync.ensures.quiet

@@ -6,7 +6,7 @@ use Rattle.disk_io.proofs.Moments.{then_nothing}
 use Rattle.base_log.specs.{Names.folder_of, Names.log_of, Names.messages_of, Names.keys_of, Moments.KeepsOutside, Moments.RepresentsAlone, Standing.BaseBytes, Standing.Represents}
 use Rattle.base_log.proofs.Keeping.{on_disk_but_one, on_disk_quiet, outside_but_one, outside_quiet, outside_twice}
 use Rattle.base_log.proofs.{Calls.Made, Calls.but_one_call, Empty.log_alone_represented, Made.log_both, Made.log_first, Made.outside_both}
-use Rattle.base_log.proofs.{Paths.log_not_messages, Paths.log_not_keys, Paths.messages_in, Paths.messages_not_keys, making.make_files.Goals.After-create, making.make_files.Goals.After-create-2}
+use Rattle.base_log.proofs.{Paths.log_not_messages, Paths.log_not_keys, Paths.messages_own, Paths.messages_not_keys, making.make_files.Goals.After-create, making.make_files.Goals.After-create-2}
 use Rattle.base_log.proofs.making.make_files.Given as given
 use Rattle.base_log.proofs.making.make_files.Goals as goal
 
@@ -36,7 +36,7 @@ one_made g c =
       any_moment = λ honest base represented. let bare = c.requires.bare (kept.honest honest) in log_alone_represented d0 path bare.log d1 base represented bare.none bare.shut (log_first d0 path bare.log bare.named 0 d1 one);
       log = λ honest. on_disk_but_one d0 d1 (log_of path) file kept (log_not_messages path 0) (c.requires.bare (kept.honest honest)).log;
       same = kept.seen (log_of path) (log_not_messages path 0);
-      outside = outside_but_one path d0 d1 file (messages_in path 0) kept;
+      outside = outside_but_one path d0 d1 file (messages_own path 0) kept;
     }
 
 both_made : (g : given.Over) (c : After-create-2 g) (one : Made (g.D.Disk.state c.args.disk.now) (g.D.Disk.state c.create.new.self) (messages_of (folder_of c.args.names.now) 0))

@@ -5,7 +5,7 @@ use Rattle.disk_io.proofs.Moments.{then_nothing}
 use Rattle.base_log.specs.Names.{AreNames, folder_of, log_of, messages_of, keys_of}
 use Rattle.base_log.specs.{Moments.KeepsOutside, Opening.HasFiles, Opening.RepresentsOrWasLeft, Standing.BaseBytes, Standing.base_at, declared.log.CommitRecord.CommitRecord}
 use Rattle.base_log.proofs.Opened.{end_shut, end_recorded_base, files_others, files_settled, first_files, has_files, none_at, none_log, nothing_read}
-use Rattle.base_log.proofs.Paths.{log_in, messages_in, keys_in, messages_not_log, keys_not_log}
+use Rattle.base_log.proofs.Paths.{log_own, messages_in, keys_in, messages_not_log, keys_not_log}
 use Rattle.base_log.proofs.{Keeping.log_moved, Keeping.outside_but_one, Keeping.outside_quiet, Keeping.outside_twice, Empty.chained_alone, Empty.no_record, Renewed.same_base}
 use Rattle.base_log.proofs.opening.open.Goals.{After-make_files, After-settle_log}
 use Rattle.base_log.proofs.opening.open.Given as given
@@ -73,7 +73,7 @@ log_settled g c =
     let others = c.settle_log.ensures.others in
     record {
       any_moment = λ h1. c.settle_log.ensures.any_moment h1 (base_at d0 path c.args.log.now.end.recorded) (c.requires.represented (others.honest h1));
-      outside = outside_but_one path d0 (g.D.Disk.state c.settle_log.new.disk) (log_of path) (log_in path) others;
+      outside = outside_but_one path d0 (g.D.Disk.state c.settle_log.new.disk) (log_of path) (log_own path) others;
     }
 
 made : (g : given.Over) (c : After-make_files g)
@@ -94,9 +94,9 @@ made g c =
           let represented = c.requires.represented h0 in
           let no_log = none_log log.bytes.items log.end c.requires.log.read path d0.seen (c.requires.log.same h0) (omega (arith, none)) in
           let shut = none_at d1 path log.end (c.in_ok-settle_log.ensures.log h1) none in
-          chained_alone d0 d1 d2 path base (c.settle_log.ensures.any_moment h1 base represented) (outside_but_one path d0 d1 (log_of path) (log_in path) others)
+          chained_alone d0 d1 d2 path base (c.settle_log.ensures.any_moment h1 base represented) (outside_but_one path d0 d1 (log_of path) (log_own path) others)
           (c.make_files.ensures.any_moment h2 base (no_record path base d0.seen d1.seen represented no_log shut.0 (inl shut.1)));
-      outside = outside_twice path d0 d1 d2 (outside_but_one path d0 d1 (log_of path) (log_in path) others) c.make_files.ensures.outside;
+      outside = outside_twice path d0 d1 d2 (outside_but_one path d0 d1 (log_of path) (log_own path) others) c.make_files.ensures.outside;
     }
 
 pub returns-in_err-settle_log-clause-any_moment : goal.returns-in_err-settle_log-clause-any_moment

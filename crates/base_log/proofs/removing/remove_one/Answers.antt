@@ -20,7 +20,7 @@ returns-in_err-exists g c =
       others = search rules;
       run = record {
         any_moment = λ honest. looked_run d0 path c.args.end (c.requires.settled (quiet.honest honest)) d1 quiet;
-        outside = outside_but_one path d0 d1 file c.requires.file.inside (but_one_quiet d0 d1 file quiet);
+        outside = outside_but_one path d0 d1 file c.requires.file.own (but_one_quiet d0 d1 file quiet);
       };
       leaves = left_quiet path d0 d1 quiet;
       cause = search rules;
@@ -42,7 +42,7 @@ returns-then-not-branch g c =
       others = kept.seen;
       run = record {
         any_moment = λ honest. looked_run d0 path c.args.end (c.requires.settled (quiet.honest honest)) d1 quiet;
-        outside = outside_but_one path d0 d1 file c.requires.file.inside kept;
+        outside = outside_but_one path d0 d1 file c.requires.file.own kept;
       };
       leaves = left_quiet path d0 d1 quiet;
       cause = search rules;
@@ -63,9 +63,9 @@ returns-in_err-remove g c =
       others = kept.seen;
       run = record {
         any_moment = λ honest. removed_run d0 path c.args.end (c.requires.settled (quiet.honest (c.remove.ensures.changes.time.honest honest))) d1 d2 file c.requires.file quiet c.remove.ensures.changes;
-        outside = outside_but_one path d0 d2 file c.requires.file.inside kept;
+        outside = outside_but_one path d0 d2 file c.requires.file.own kept;
       };
-      leaves = left_twice path d0 d1 d2 (λ m out. quiet.named m (λ h. h)) (left_quiet path d0 d1 quiet) (left_call path file d1 d2 TornRemoval c.requires.file.inside c.remove.ensures.changes);
+      leaves = left_twice path d0 d1 d2 (λ m out. quiet.named m (λ h. h)) (left_quiet path d0 d1 quiet) (left_call path file d1 d2 TornRemoval c.requires.file.own c.remove.ensures.changes);
       cause = search rules;
     }
 
@@ -82,8 +82,8 @@ returns g c =
     let synced = c.sync_parent_folder.ensures.quiet in
     let removed = but_one_twice d0 d1 d2 file (but_one_quiet d0 d1 file looked) (but_one_call d1 d2 file changes) in
     let kept = but_one_twice d0 d2 d3 file removed (but_one_quiet d2 d3 file synced) in
-    let left = left_twice path d0 d1 d2 (λ m out. looked.named m (λ h. h)) (left_quiet path d0 d1 looked) (left_call path file d1 d2 TornRemoval c.requires.file.inside changes) in
-    let outside = outside_but_one path d0 d2 file c.requires.file.inside removed in
+    let left = left_twice path d0 d1 d2 (λ m out. looked.named m (λ h. h)) (left_quiet path d0 d1 looked) (left_call path file d1 d2 TornRemoval c.requires.file.own changes) in
+    let outside = outside_but_one path d0 d2 file c.requires.file.own removed in
     record {
       settled = λ honest.
           on_ok_weaker {P = (m : List ℕ) → IsIn path m → d3.is_named m} c.sync_parent_folder.result
@@ -93,7 +93,7 @@ returns g c =
       run = record {
         any_moment = λ honest.
             then_nothing d0 d2 d3 (RepresentsAlone path d0 (base_at d0 path c.args.end.recorded)) (removed_run d0 path c.args.end (c.requires.settled (kept.honest honest)) d1 d2 file c.requires.file looked changes) synced;
-        outside = outside_but_one path d0 d3 file c.requires.file.inside kept;
+        outside = outside_but_one path d0 d3 file c.requires.file.own kept;
       };
       leaves = left_twice path d0 d2 d3 outside.named left (left_quiet path d2 d3 synced);
       cause = cause_since (g.D.Disk.failures c.args.disk.now) (g.D.Disk.failures c.remove.new.self) (g.D.Disk.failures c.sync_parent_folder.new.disk) c.sync_parent_folder.result (omega arith) c.sync_parent_folder.ensures.cause;

@@ -2,7 +2,7 @@ use Rattle.std.proofs.Common.{◌≡◌, ◌≤◌, List, ℕ, ap, length, sym, 
 use Rattle.std.specs.Prelude.{IsSome}
 use Rattle.disk_io.specs.{Disk.bytes_in, Steps.IsWrittenAt, Steps.TornWrite}
 use Rattle.base_log.specs.{AtRest.IsStaged, Growing.counted, Growing.file_of, Moments.LeavesOutside, Moments.StagesOnly, Names.folder_of, Standing.base_at, declared.log.CommitRecord.CommitRecord}
-use Rattle.base_log.proofs.Growing.{file_alone, file_inside, file_long, file_named, file_there, grown_next, grown_run, grown_staged}
+use Rattle.base_log.proofs.Growing.{file_alone, file_own, file_long, file_named, file_there, grown_next, grown_run, grown_staged}
 use Rattle.base_log.proofs.{Keeping.outside_kept, Calls.Wrote, Calls.others_kept, LeftOutside.left_call, staging.stage_bytes.Goals.After-counted, staging.stage_bytes.Goals.After-write_at}
 use Rattle.base_log.proofs.staging.stage_bytes.Given as given
 use Rattle.base_log.proofs.staging.stage_bytes.Goals as goal
@@ -38,14 +38,14 @@ run g c =
     let one = wrote g c in
     record {
       any_moment = λ honest. grown_run d0 d path c.args.end recorded c.args.file (c.requires.staged.staged (c.write_at.ensures.changes.time.honest honest)) (length c.args.bytes.now) one.call;
-      outside = outside_kept path (file_of path recorded.number c.args.file) d0 d (file_inside path recorded.number c.args.file) (others_kept d0 d (file_of path recorded.number c.args.file) (counted recorded c.args.file) (length c.args.bytes.now) one.call);
+      outside = outside_kept path (file_of path recorded.number c.args.file) d0 d (file_own path recorded.number c.args.file) (others_kept d0 d (file_of path recorded.number c.args.file) (counted recorded c.args.file) (length c.args.bytes.now) one.call);
     }
 
 leaves : (g : given.Over) (c : After-write_at g) → LeavesOutside (folder_of c.args.names.now) (g.D.Disk.state c.args.disk.now) (g.D.Disk.state c.write_at.new.self)
 leaves g c =
     let path = folder_of c.args.names.now in
     left_call path (file_of path c.args.recorded.number c.args.file) (g.D.Disk.state c.args.disk.now) (g.D.Disk.state c.write_at.new.self) (TornWrite (counted c.args.recorded c.args.file) (length c.args.bytes.now))
-    (file_inside path c.args.recorded.number c.args.file) (wrote g c).call
+    (file_own path c.args.recorded.number c.args.file) (wrote g c).call
 
 pub returns-in_err-write_at-clause-run : goal.returns-in_err-write_at-clause-run
 returns-in_err-write_at-clause-run g c = run g (goal.at.returns-in_err-write_at-clause-run g c).After-write_at

@@ -1,8 +1,36 @@
-use Rattle.std.proofs.Common.{refl}
-use Rattle.cmd_numbered.{specs.Finding.IsAnswered, proofs.Readings.of_file}
+use Rattle.std.proofs.{Common.◌∙◌, Common.add-one, Common.arith, lemmas.Result.err_from_is_err_and}
+use Rattle.base_folder.proofs.{Fetchings.unread_since, Readings.read_more}
 use Rattle.cmd_numbered.proofs.finding.find_answered.Goals as goal
 
-pub returns : goal.returns
-returns g c =
-    let base = c.in_ok-messages.messages.base in
-    of_file (IsAnswered c.args.id.now) _ c.args.base.now base c.find_answered_streamed.result c.in_ok-messages.ensures.ok (c.find_answered_streamed.ensures.found tt base (refl, refl))
+pub messages-init : goal.messages-init
+messages-init g c = grind arith
+
+pub fetch_message-requires : goal.fetch_message-requires
+fetch_message-requires g c = record { ready = c.messages.invariant.ready; within = omega (arith, c.messages-test.true, c.messages.invariant.many) }
+
+pub returns-in_err-fetch_message-clause-found : goal.returns-in_err-fetch_message-clause-found
+returns-in_err-fetch_message-clause-found g c = grind (arith, err_from_is_err_and, unread_since)
+
+pub returns-in_err-note_answered-clause-found : goal.returns-in_err-note_answered-clause-found
+returns-in_err-note_answered-clause-found g c = grind (arith, err_from_is_err_and)
+
+pub messages-preserved : goal.messages-preserved
+messages-preserved g c =
+    let looks = c.fetch_message.ensures.looks in
+    let inv = c.messages.invariant in
+    record {
+      ready = looks.ready inv.ready;
+      many = looks.count ∙ inv.many;
+      honest = λ honest. inv.honest (looks.honest honest);
+      held = λ base held. looks.holds base (inv.held base held);
+      since = λ j is. inv.since j (c.fetch_message.ensures.legible.since j is);
+      read = read_more (g.M.MessageSource.state c.args.messages.now) (g.M.MessageSource.state c.messages.messages) (g.M.MessageSource.state c.fetch_message.new.messages) c.messages.i inv.since looks.honest inv.read c.in_ok-fetch_message.ensures.legible.here;
+      later = omega (arith, inv.later, c.fetch_message.ensures.later);
+      so_far = grind (arith, add-one);
+    }
+
+pub returns-clause-found : goal.returns-clause-found
+returns-clause-found g c = grind arith
+
+pub returns-clause-whole : goal.returns-clause-whole
+returns-clause-whole g c honest = λ i within. c.messages.invariant.read honest i (omega (arith, within, c.messages-test.false, c.count-count.ensures.count))

@@ -1,4 +1,4 @@
-use Rattle.cmd_repair.proofs.IdWords.{given, printed_taken}
+use Rattle.cmd_repair.proofs.Unescaped.{given, printed_taken}
 use Rattle.cmd_repair.proofs.laws.words_are_those_of_ids.Goals as goal
 
 pub returns : goal.returns

@@ -14,7 +14,7 @@ lines-preserved c =
       right =
           goes_on area c.args.bytes.now c.lines.rest.now line after c.lines.number c.lines.stage c.in_ok-stage.stage c.lines.invariant.right c.split_line.ensures.lines
           (c.in_ok-stage.ensures area (c.deref.ensures.value ∙ c.in_ok-push_area.ensures ∙ ap (λ (l : List ℕ). l ++ area_words area) c.new-first.ensures.items)
-          ∙ ap (λ (n : ℕ). stage_after area n c.lines.stage line) c.saturating_sub.ensures)
+          ∙ ap (λ (n : ℕ). stage_after area n c.lines.stage line) c.saturating_sub-ids.ensures)
           c.in_ok-number.number (let is = c.in_ok-number.ensures.ok_part in grind arith) (sym c.is_wrong.ensures ∙ c.if-is_wrong.false);
       words =
           words_more c.lines.rest.now line after (map (λ word. word.now) c.lines.words.items) (map (λ word. word.now) c.take_word.new.words.items) _

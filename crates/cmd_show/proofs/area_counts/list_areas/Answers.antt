@@ -1,12 +1,19 @@
-use Rattle.std.proofs.Common.{Some, refl}
-use Rattle.cmd_status.specs.{Devices.output_of, Inputs.IsBaseFault}
-use Rattle.cmd_show.{specs.AreasListed.{AreAreasListed, AreListed}, proofs.Fetchings.at_once}
+use Rattle.std.proofs.{Common.◌∙◌, Common.◌-◌, Common.Global, Common.List, Common.Vec, Common.ap, Common.length, Common.ℕ, Common.arith, lemmas.Result.err_from_is_err_and}
+use Rattle.cmd_status.specs.Devices.{output_of}
+use Rattle.base_folder.specs.Fetching.{CannotRead}
+use Rattle.cmd_show.proofs.AreasCounted.{areas_answered}
 use Rattle.cmd_show.proofs.area_counts.list_areas.Goals as goal
 
+pub returns-in_err-counts : goal.returns-in_err-counts
+returns-in_err-counts g c = grind (arith, err_from_is_err_and)
+
 pub returns : goal.returns
-returns g c =
-    let base = c.in_ok-messages.messages.base in
-    at_once (AreListed base) (AreAreasListed c.args.base.now) (IsBaseFault (Some c.args.base.now)) _
-    (output_of g.W.Write.contents g.W.Sink.failures g.W.Sink.holds c.args.out.now) (output_of g.W.Write.contents g.W.Sink.failures g.W.Sink.holds c.list_areas_streamed.new.out)
-    (λ lines status is. record { base = base; given = c.in_ok-messages.ensures.ok; listed = is })
-    c.list_areas_streamed.result (c.list_areas_streamed.ensures tt base (refl, refl))
+returns g c = λ honest base holds.
+    let tag_of : Vec ℕ Global → List ℕ = λ key. key.items in
+    let many = c.count-count.ensures.all base holds in
+    let at = c.cursor-scanned.ensures base holds in
+    areas_answered tag_of c.in_ok-counts.counts.entries base c.count-count.result c.saturating_sub.result
+    (CannotRead c.args.path.now (g.M.MessageSource.state c.args.messages.now).failures (g.M.MessageSource.state c.count_areas.new.messages).failures)
+    (output_of g.W.Write.contents g.W.Sink.failures g.W.Sink.holds c.args.out.now) (output_of g.W.Write.contents g.W.Sink.failures g.W.Sink.holds c.print_areas.new.out) c.print_areas.result
+    (c.in_ok-counts.ensures.counts honest base holds) c.in_ok-counts.ensures.ascending many
+    (c.saturating_sub.ensures ∙ ap (λ n. n - c.cursor-scanned.result) many ∙ ap (λ n. length base.messages - n) at) c.print_areas.ensures

@@ -2,7 +2,7 @@ use Rattle.std.proofs.{Common.{◌<◌, ◌+◌, ◌∙◌, get_or, ⊎_elim, le
 use Rattle.disk_io.{specs.{Disk.Honestly, Runs.{LeavesOnly, OneStepOn}}, proofs.Moments.then_nothing}
 use Rattle.disk_atomic.specs.Finishing.{AreAway, AreNamed, FinishesEach, IsOfLeft, IsOver, KeepsFile}
 use Rattle.disk_atomic.proofs.Ended.{away_back, finished_more, FinishesSome, IsSameLeft, keeps_now, none_finished, nothing_left, one_of_left, over_now, some_finishes, still_keeps, still_named, still_over, still_same}
-use Rattle.disk_atomic.proofs.{Changes.only_nothing, Changes.then_only, Changes.weaker_steps, Each.ahead, Each.behind, Each.here, Whole.one_false}
+use Rattle.disk_atomic.proofs.{Changes.only_nothing, Changes.then_only, Changes.weaker_steps, Each.ahead, Each.behind, Each.each, Each.here, Whole.one_false}
 use Rattle.disk_atomic.proofs.finishing.finish_stopped.Goals.{After-sync_parent_folder-2}
 use Rattle.disk_atomic.proofs.finishing.finish_stopped.Given as given
 use Rattle.disk_atomic.proofs.finishing.finish_stopped.Goals as goal
@@ -41,6 +41,20 @@ returns-in_err-all-clause-any_moment g c honest =
     (finished_more c.args.cursor found c.requires.found.away i lt d0 d e (c.found.invariant.any_moment (now.changes.honest honest)) (now.any_moment honest))
     (some_finishes c.args.cursor found (i + 1))
 
+pub returns-in_err-all-clause-kept : goal.returns-in_err-all-clause-kept
+returns-in_err-all-clause-kept g c honest =
+    let found = c.args.found.now in
+    let i = c.found.left-index in
+    let lt : i < length found = omega arith in
+    let x = get_or found i nothing_left in
+    let inv = c.found.invariant in
+    let d0 = g.D.Disk.state c.args.disk.now in
+    let d = g.D.Disk.state c.found.disk in
+    let e = g.D.Disk.state c.finish_one.new.disk in
+    let one = c.finish_one.ensures.changes in
+    each AreAway away_back found c.requires.found.away i nothing_left lt (KeepsFile d0 d) (IsSameLeft d0 d) (KeepsFile d0 e) (λ y far. still_keeps x y far d e one d0) (λ y far was some. (still_same x y far d e one d0 was).path)
+    (keeps_now c.args.cursor x d0 d e (here (IsSameLeft d0 d) found i nothing_left lt inv.same) (c.finish_one.ensures.kept honest)) (inv.kept (one.honest honest)) inv.same
+
 pub found-preserved : goal.found-preserved
 found-preserved g c =
     let found = c.args.found.now in
@@ -64,7 +78,7 @@ found-preserved g c =
       over = λ honest is.
           let both = and_parts c.found.all c.in_ok-all.field-0 is in
           behind AreAway away_back found away i nothing_left lt (IsOver cursor d0 d) (IsOver cursor d0 e) (λ y far. still_over x y far d e one d0 cursor) (over_now cursor x d0 d e was (now.over honest both.1)) (inv.over (one.honest honest) both.0);
-      kept = λ honest. behind AreAway away_back found away i nothing_left lt (KeepsFile d0 d) (KeepsFile d0 e) (λ y far. still_keeps x y far d e one d0) (keeps_now cursor x d0 d e was (now.kept honest)) (inv.kept (one.honest honest));
+      kept = λ honest. behind AreAway away_back found away i nothing_left lt (KeepsFile d0 d) (KeepsFile d0 e) (λ y far. still_keeps x y far d e one d0) (keeps_now cursor x d0 d e was (c.finish_one.ensures.kept honest)) (inv.kept (one.honest honest));
       taken = λ honest is free.
           ⊎_elim (λ no. inv.taken (one.honest honest) no free) (λ no. now.taken honest no (was.path ∙ free i nothing_left lt)) (one_false c.found.all c.in_ok-all.field-0 is);
       cause = omega (arith, c.finish_one.ensures.cause.later, inv.cause);

@@ -12,15 +12,8 @@ pub returns-clause-gives : goal.returns-clause-gives
 returns-clause-gives g c =
     gives_quiet (g.D.Disk.state c.args.disk.now) (g.D.Disk.state c.link_path.new.disk) (g.D.Disk.state c.has_both.new.disk) c.args.path.now c.args.staging.now c.link_path.ensures.gives c.has_both.ensures.quiet
 
-pub returns-then-branch-clause-over_none : goal.returns-then-branch-clause-over_none
-returns-then-branch-clause-over_none g c honest some = absurd (none_is_not_there _ ((c.in_ok-link_path.ensures.free honest).0 c.if-branch.true) some)
-
 pub returns-clause-given : goal.returns-clause-given
 returns-clause-given g c honest = grind (arith, IfOk-weaker)
-
-pub returns-clause-over_none : goal.returns-clause-over_none
-returns-clause-over_none g c honest =
-    on_ok_any c.has_both.result (λ some. c.has_both.ensures.quiet.seen c.args.path.now ∙ c.in_ok-link_path.ensures.taken c.if-branch.false)
 
 pub returns-clause-taken : goal.returns-clause-taken
 returns-clause-taken g c honest = grind (arith, IfOk-weaker, there_unless)

@@ -39,6 +39,22 @@ returns-in_err-all-clause-any_moment g c honest =
           (whole_now of x d e staged.file a b f left q (r.whole i z lt)) (λ k w low high. r.whole k w (omega arith)) (λ k w low high. r.whole k w high);
     })
 
+pub returns-in_err-all-clause-kept : goal.returns-in_err-all-clause-kept
+returns-in_err-all-clause-kept g c honest =
+    let packets = c.args.packets.now in
+    let of = staged_in (g.D.Disk.state c.args.disk.now).seen in
+    let i = c.packets.packet-index in
+    let lt : i < length packets = omega arith in
+    let z = nobody in
+    let x = get_or packets i z in
+    let inv = c.packets.invariant in
+    let d0 = g.D.Disk.state c.args.disk.now in
+    let d = g.D.Disk.state c.packets.disk in
+    let e = g.D.Disk.state c.name_packet.new.disk in
+    let one = c.name_packet.ensures.changes in
+    each AreApart apart_back packets c.requires.placed.apart i z lt (KeepsPath d0 d) (IsSameAt d0 d) (KeepsPath d0 e) (λ y apart. path_stays of x y apart d e one d0) (λ y apart was some. same_stays of x y apart d e one d0 was)
+    (path_now x d0 d e (here (IsSameAt d0 d) packets i z lt inv.same) (c.name_packet.ensures.over_none honest)) (inv.kept (one.honest honest)) inv.same
+
 pub packets-preserved : goal.packets-preserved
 packets-preserved g c =
     let packets = c.args.packets.now in
@@ -76,6 +92,6 @@ packets-preserved g c =
           behind AreApart apart_back packets pairs i z lt (HasItsPath of d) (HasItsPath of e) (λ y apart. has_path_stays of x y apart d e one) (has_path of x d e staged.file (moved honest both.1)) (inv.named (one.honest honest) both.0);
       taken = λ honest is free.
           ⊎_elim (λ no. inv.taken (one.honest honest) no free) (λ no. none_is_not_there (d.seen x.path.now) (was ∙ free i z lt) (taken honest no).there) (one_false c.packets.all c.in_ok-all.field-0 is);
-      kept = λ honest. behind AreApart apart_back packets pairs i z lt (KeepsPath d0 d) (KeepsPath d0 e) (λ y apart. path_stays of x y apart d e one d0) (path_now x d0 d e was (now.over_none honest)) (inv.kept (one.honest honest));
+      kept = λ honest. behind AreApart apart_back packets pairs i z lt (KeepsPath d0 d) (KeepsPath d0 e) (λ y apart. path_stays of x y apart d e one d0) (path_now x d0 d e was (c.name_packet.ensures.over_none honest)) (inv.kept (one.honest honest));
       cause = omega (arith, c.name_packet.ensures.cause.later, inv.cause);
     }

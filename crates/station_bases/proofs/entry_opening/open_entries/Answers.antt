@@ -44,7 +44,6 @@ take_all-requires-clause-can g c = record {
       record {
         there = subst (λ (f : Option (List ℕ)). IsSome f) (sym (c.fill.ensures.quiet.seen path ∙ c.len.ensures.quiet.seen path)) (c.requires.there h0);
         long = subst (λ (l : List ℕ). c.new-entries.result.end ≤ length l) (sym (same_file d1 d2 path c.fill.ensures.quiet)) judged.within;
-        ahead = c.new-entries.ensures.ahead (bytes_in (d2.seen path));
       };
 }
 

@@ -3,7 +3,7 @@ use Rattle.disk_io.specs.Device.{Failed}
 use Rattle.station.{proofs.{Failures.failed_wider, Ran.{looks_of, looks_open, needs_held, stopped_on}}, specs.Opening.HaveFailed}
 use Rattle.cmd_store.specs.declared.command_error.CommandError.TheVariants.{Met}
 use Rattle.cmd_status.specs.Devices.{output_of}
-use Rattle.station_scan.proofs.{Runs.scan_keeps, Runs.scanned_on, Stops.failed_too, Tries.scan_tries}
+use Rattle.station_scan.proofs.{Runs.scan_keeps, Runs.scanned_on, Stops.failed_too}
 use Rattle.station_scan.proofs.scanning.run_scan.Goals as goal
 
 pub returns-in-Ok-prepare-clause-runs : goal.returns-in-Ok-prepare-clause-runs
@@ -44,33 +44,11 @@ returns-in-Ok-prepare-clause-runs g c = λ honest.
       file = c.in-Ok.opened.links;
       read = opened.read honest0;
       runs = λ base represented.
-          scanned_on place d0 d2 s1 s2 begun of quiet (g.P.Paths.OwnPaths.is_own c.paths-paths.result) (λ m o. (own m).0 o) (λ m o. (own m).1 o) c.args.scan.now.outbound.now c.args.scan.now.stamp
+          scanned_on g.D.Disk.state place d0 d2 s1 s2 begun of quiet (g.P.Paths.OwnPaths.is_own c.paths-paths.result) (λ m o. (own m).0 o) (λ m o. (own m).1 o) c.args.scan.now.outbound.now c.args.scan.now.stamp
           (g.G.ListStaged.is_true c.scan_kept-done.new.scan.listing) (Failed f2 f3 ⊎ listed) (HaveFailed f0 f4 l0 l1 k0 k1 ⊎ listed) out now c.in-Ok.opened.links base c.scan_kept-done.result represented (failed_too (Failed f2 f3) (Failed f0 f4) (Failed l0 l1 ⊎ Failed k0 k1) listed wider)
-          (did.scans honest2 base (begun.keeps base represented) (begun.committed base represented));
+          (c.paths-paths.ensures.settled c.prepare.new.store) (s1.shown honest1 looked.looks.ready base (begun.committed base represented)) (did.scans honest2 base (begun.keeps base represented) (begun.committed base represented));
       cause = λ is. inl (inl (wider (did.device is)));
     })
-
-pub returns-in-Ok-prepare-clause-tried : goal.returns-in-Ok-prepare-clause-tried
-returns-in-Ok-prepare-clause-tried g c = λ honest.
-    let d0 = g.D.Disk.state c.args.disk in
-    let d2 = g.D.Disk.state c.into_disk-disk.result in
-    let s0 = g.P.Kept.Store.state c.in-Ok.opened.kept in
-    let s1 = g.P.Kept.Store.state c.prepare.new.store in
-    let s2 = g.P.Kept.Store.state c.scan_kept-done.new.store.store in
-    let place = g.P.OpenStation.place c.args.station in
-    let opened = c.in-Ok.ensures.opened in
-    let looks = c.prepare.ensures.looks in
-    let did = c.scan_kept-done.ensures in
-    let quiet = c.into_disk-disk.ensures.quiet in
-    let honest2 = quiet.honest honest in
-    let honest0 = looks.quiet.honest (did.keeps.keeps.honest honest2) in
-    let begun = looks_open place d0 s0 s1 looks (opened.begun honest0) in
-    let out = output_of g.W.Write.contents g.W.Sink.failures g.W.Sink.holds c.args.out.now in
-    let now = output_of g.W.Write.contents g.W.Sink.failures g.W.Sink.holds c.scan_kept-done.new.out in
-    scan_tries g.D.Disk.state c.args.scan.now.stamp place c.args.scan.now.outbound.now (g.P.OpenStation.reads c.args.station d0) d0 d2 s1 s2 (looks_of place d0 s0 s1 looks opened.of_place) quiet did.keeps.same honest2
-    (g.P.Paths.OwnPaths.is_own c.paths-paths.result) (λ m o. (c.paths-paths.ensures.own m).1 ((looks_of place d0 s0 s1 looks opened.of_place).own m o)) (c.paths-paths.ensures.settled c.prepare.new.store) out now c.in-Ok.opened.links (opened.read honest0) c.scan_kept-done.result
-    (λ base represented. s1.shown (did.keeps.keeps.honest honest2) looks.ready base (begun.committed base represented))
-    (λ base represented. did.tried honest2 base (begun.keeps base represented) (begun.committed base represented))
 
 pub returns-in-Ok-prepare-clause-many : goal.returns-in-Ok-prepare-clause-many
 returns-in-Ok-prepare-clause-many g c = grind (arith, looks_open)

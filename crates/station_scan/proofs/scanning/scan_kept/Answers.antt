@@ -3,7 +3,7 @@ use Rattle.disk_io.specs.Device.{Failed}
 use Rattle.station.proofs.Failures.{failed_wider}
 use Rattle.cmd_status.specs.Devices.{output_of}
 use Rattle.station_scan.specs.Moved.{IsMoved}
-use Rattle.station_scan.proofs.{Lefts.quiet_start, Published.keeps_nothing, Scans.moved_keeps, Scans.scans_moved, Scans.scans_stopped, Tries.tries_moved}
+use Rattle.station_scan.proofs.{Lefts.quiet_start, Published.keeps_nothing, Scans.moved_keeps, Scans.scans_moved, Scans.scans_stopped}
 use Rattle.station_scan.proofs.scanning.scan_kept.Goals as goal
 
 pub returns-in-Ok-clause-scans : goal.returns-in-Ok-clause-scans
@@ -25,12 +25,9 @@ returns-in-Ok-clause-scans g c = λ honest base keeps committed.
     let f2 = g.P.Kept.Store.failures c.put_moved.new.store.store in
     let later : f1 ≤ fA = move.cause.later in
     let listed = Failed (g.G.ListStaged.failures c.args.scan.now.listing) (g.G.ListStaged.failures c.put_moved.new.scan.listing) in
-    scans_moved c.args.scan.now.stamp (g.P.Paths.OwnPaths.is_own c.args.paths.now) c.args.scan.now.outbound.now (g.G.ListStaged.is_true c.put_moved.new.scan.listing) (Failed fA f2 ⊎ listed) (Failed f1 f2 ⊎ listed)
+    scans_moved g.D.Disk.state c.args.scan.now.stamp (g.P.Paths.OwnPaths.is_own c.args.paths.now) c.args.scan.now.outbound.now (g.G.ListStaged.is_true c.put_moved.new.scan.listing) (Failed fA f2 ⊎ listed) (Failed f1 f2 ⊎ listed)
     (λ failed. ⊎_elim (λ disk. inl (failed_wider f1 fA f2 f2 later (omega arith) disk)) (λ at. inr at) failed) s1 sA s2 out now c.args.links.now base c.put_moved.result honest1 c.requires.ready committed move.commits.same move.quiet
     (put.scans honest base moved)
-
-pub returns-in-Ok-clause-tried : goal.returns-in-Ok-clause-tried
-returns-in-Ok-clause-tried g c = grind (arith, tries_moved)
 
 pub returns-in-Ok-clause-keeps : goal.returns-in-Ok-clause-keeps
 returns-in-Ok-clause-keeps g c =

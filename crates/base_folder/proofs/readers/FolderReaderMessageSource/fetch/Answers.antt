@@ -1,11 +1,8 @@
 use Rattle.std.{proofs.Common.{◌≡◌, ◌∙◌, ◌<◌, length, sym, arith}, specs.Prelude.slice_get}
 use Rattle.echo_filed.specs.{Filed.Filed, Stored.message_in, declared.stored.Version.TheVariants.Second}
 use Rattle.base_folder_store.{specs.Opened.held_by, proofs.{Causes.{answers_error, on_ok_none}, Seen.message_at}}
-use Rattle.base_folder.proofs.Readings.{looked_quiet, read_at, sees_quiet, vouched_quiet}
+use Rattle.base_folder.proofs.Readings.{read_at, readable_quiet, sees_quiet, vouched_quiet}
 use Rattle.base_folder.proofs.readers.FolderReaderMessageSource.fetch.Goals as goal
-
-pub read_vouched-requires-clause-legible : goal.read_vouched-requires-clause-legible
-read_vouched-requires-clause-legible g c honest = c.requires.ready.legible honest (omega (arith, c.requires.within))
 
 pub returns-in_err-message-clause-fetched : goal.returns-in_err-message-clause-fetched
 returns-in_err-message-clause-fetched g c honest = λ base sees.
@@ -26,10 +23,10 @@ returns-clause-fetched g c honest = λ base sees.
     sym (message_at base.messages c.args.place c.in_ok-message.message within (λ e. read.is e ∙ sym is))
 
 pub returns-in_err-message-clause-looks : goal.returns-in_err-message-clause-looks
-returns-in_err-message-clause-looks g c = grind (arith, looked_quiet, sees_quiet)
+returns-in_err-message-clause-looks g c = grind (arith, readable_quiet, sees_quiet)
 
 pub returns-clause-looks : goal.returns-clause-looks
-returns-clause-looks g c = grind (arith, looked_quiet, sees_quiet)
+returns-clause-looks g c = grind (arith, readable_quiet, sees_quiet)
 
 pub returns-in_err-message-clause-legible : goal.returns-in_err-message-clause-legible
 returns-in_err-message-clause-legible g c = record {

@@ -1,43 +1,88 @@
-use Rattle.std.{proofs.Common.{◌≡◌, ◌-◌, ◌/◌, ◌∙◌, Some, length, min, refl, subst, sym, arith}, specs.Prelude.slice_get}
-use Rattle.base_log.specs.{Names.keys_of, Standing.BaseBytes}
+use Rattle.std.proofs.Common.{◌≡◌, ◌<◌, ◌-◌, ◌/◌, ◌∙◌, List, ℕ, length, min, subst, sym, arith}
+use Rattle.disk_io.proofs.Moments.{nothing_twice}
 use Rattle.base_store.specs.Keys.{HasBytesOf, IsPieceOf}
-use Rattle.echo_filed.specs.{Filed.Filed, Stored.message_in, declared.stored.Version.TheVariants.Second}
-use Rattle.base_folder_store.specs.{Ahead.IsPartOf, Opened.held_by, Opened.path_of}
-use Rattle.base_folder_store.proofs.{Ahead.part_kept, Causes.answers_give, Legible.held_quiet, Legible.keys_all, Numbered.piece_has, Numbered.piece_of, Seen.message_at}
+use Rattle.base_folder_store.specs.{Ahead.IsPartOf, Extent.bytes_of, Opened.held_by, Vouched.AreBytesAt}
+use Rattle.base_folder_store.proofs.{Causes.answers_error, Extents.{keys_kept, keys_readable, messages_are, messages_readable}, Legible.keys_all, Numbered.{first_digest, piece_bytes, piece_has, piece_of}}
+use Rattle.base_folder_store.proofs.folder.Folder.read.Goals.{After-read_at}
+use Rattle.base_folder_store.proofs.folder.Folder.read.Given as given
 use Rattle.base_folder_store.proofs.folder.Folder.read.Goals as goal
 
-pub returns-then-ends-written-clause-read : goal.returns-then-ends-written-clause-read
-returns-then-ends-written-clause-read g c honest = λ base recorded inside.
-    let of = c.in_ok-stored.ensures.stored honest base recorded inside in
-    let m = message_in Second of.s in
-    answers_give (λ (x : Filed). x ≡ m) (λ (x : Filed). slice_get base c.args.place ≡ Some x) (λ x is. message_at base c.args.place x inside (λ d. of.is d ∙ sym is)) c.read_alone.result
-    (c.read_alone.ensures.read m (record { s = of.s; size = of.size; alone = of.alone; is = refl; same = c.deref.ensures.value ∙ of.same }))
+pub read-requires-clause-readable : goal.read-requires-clause-readable
+read-requires-clause-readable g c honest = grind (arith, keys_readable)
 
-pub read_by-requires-clause-within : goal.read_by-requires-clause-within
-read_by-requires-clause-within g c = grind arith
+pub read_at-requires-clause-readable : goal.read_at-requires-clause-readable
+read_at-requires-clause-readable g c honest = grind (arith, messages_readable)
 
-pub returns-in-Some-clause-read : goal.returns-in-Some-clause-read
-returns-in-Some-clause-read g c honest = λ base recorded inside.
+pub read_at-requires-clause-within : goal.read_at-requires-clause-within
+read_at-requires-clause-within g c = grind arith
+
+-- the two buffers, the entry, and the bytes of the messages
+record Found (g : given.Over) (c : After-read_at g) : Type 0 where
+  keys : IsPartOf (held_by (g.D.Disk.state c.args.disk.now) c.args.self.now).keys c.read.new.self
+  messages : IsPartOf (bytes_of (g.D.Disk.state c.read.new.disk) c.message_bytes.result) c.args.buffers.now.messages
+  same : bytes_of (g.D.Disk.state c.read.new.disk) c.message_bytes.result ≡ (held_by (g.D.Disk.state c.args.disk.now) c.args.self.now).messages
+  piece : IsPieceOf (held_by (g.D.Disk.state c.args.disk.now) c.args.self.now).keys c.args.place c.in-Some.entry.now
+  inside : c.args.place < length (held_by (g.D.Disk.state c.args.disk.now) c.args.self.now).keys / 16
+  two : length c.in-Some.entry.now / 16 ≡ min 2 (length (held_by (g.D.Disk.state c.args.disk.now) c.args.self.now).keys / 16 - c.args.place)
+
+found : (g : given.Over) (c : After-read_at g) → (g.D.Disk.state c.read.new.disk).is_honest → Found g c
+found g c h1 =
     let d = g.D.Disk.state c.args.disk.now in
-    let e = g.D.Disk.state c.read.new.disk in
     let f = c.args.self.now in
-    let place = c.args.place in
-    let next = c.behind_two-next.result in
-    let entry = c.in-Some.entry.now in
-    let h1 = c.read_by.ensures.quiet.honest honest in
     let h0 = c.read.ensures.quiet.honest h1 in
     let legible = c.requires.legible h0 in
-    let keys = (held_by d f).keys in
-    let part : IsPartOf keys c.read.new.self = part_kept d c.deref-2.result.now (keys_of (path_of f) f.recorded.number) f.recorded.keys f.waiting.keys.items c.args.buffers.now.keys c.read.new.self
-    (c.deref-2.ensures.value ∙ legible.names.keys) (c.read.ensures.part h1) (c.requires.parts h0).keys in
+    let held = held_by d f in
+    let part = keys_kept d f c.key_bytes-keys.result legible c.key_bytes-keys.ensures c.args.buffers.now.keys c.read.new.self (c.read.ensures.part h1) (c.requires.parts h0).keys in
+    let same = messages_are d (g.D.Disk.state c.read.new.disk) f c.message_bytes.result c.read.ensures.quiet legible c.message_bytes.ensures in
     let within = c.requires.within in
-    let two = c.behind_two-next.ensures in
+    let two = c.behind_two.ensures in
     let all = keys_all d f legible in
-    let piece : IsPieceOf keys place entry = piece_of keys entry place next (omega (arith, two)) (omega (arith, within, two, all)) (c.in-Some.ensures.part keys part) in
-    let count : length entry / 16 ≡ min 2 (length keys / 16 - place) = omega (arith, c.in-Some.ensures.long, within, two, all) in
-    let represented = recorded.each place inside in
-    let has = piece_has (held_by d f).messages keys entry place piece (omega (arith, within, all)) count represented.s represented.bytes in
-    let m = message_in Second represented.s in
-    answers_give (λ (x : Filed). x ≡ m) (λ (x : Filed). slice_get base place ≡ Some x) (λ x is. message_at base place x inside (λ d. represented.is d ∙ sym is)) c.read_by.result
-    (c.read_by.ensures.read honest represented.s represented.size represented.alone
-    (subst (λ (b : BaseBytes). HasBytesOf b.messages entry 0 represented.s) (sym (held_quiet d e f c.read.ensures.quiet)) has))
+    record {
+      keys = part;
+      messages = subst (λ (l : List ℕ). IsPartOf l c.args.buffers.now.messages) (sym same) (c.requires.parts h0).messages;
+      same = same;
+      piece = piece_of held.keys c.in-Some.entry.now c.args.place c.behind_two.result (omega (arith, two)) (omega (arith, within, two, all)) (c.in-Some.ensures.part held.keys part);
+      inside = omega (arith, within, all);
+      two = omega (arith, c.in-Some.ensures.long, within, two, all);
+    }
+
+pub returns-in_err-message-clause-there : goal.returns-in_err-message-clause-there
+returns-in_err-message-clause-there g c honest = grind (arith, answers_error, found, piece_has)
+
+pub returns-clause-there : goal.returns-clause-there
+returns-clause-there g c honest = λ s there.
+    let at = found g (goal.at.returns-clause-there g c).After-read_at (c.read_at.ensures.quiet.honest honest) in
+    let held = held_by (g.D.Disk.state c.args.disk.now) c.args.self.now in
+    c.in_ok-message.ensures.read honest s there.size there.alone
+    (subst (λ (l : List ℕ). HasBytesOf l c.in-Some.entry.now 0 s) (sym at.same) (piece_has held.messages held.keys c.in-Some.entry.now c.args.place at.piece at.inside at.two s there.stored)) at.messages
+
+pub returns-clause-at : goal.returns-clause-at
+returns-clause-at g c honest =
+    let at = found g (goal.at.returns-clause-at g c).After-read_at (c.read_at.ensures.quiet.honest honest) in
+    let held = held_by (g.D.Disk.state c.args.disk.now) c.args.self.now in
+    let read = c.in_ok-message.ensures.at honest at.messages in
+    record {
+      message = record {
+        bytes = read.bytes;
+        at = piece_bytes held.messages held.keys c.in-Some.entry.now c.args.place at.piece at.inside at.two read.bytes (subst (λ (l : List ℕ). AreBytesAt l c.in-Some.entry.now 0 read.bytes) at.same read.at);
+        alone = read.alone;
+      };
+      digest = c.stored_digest-digest.ensures ∙ first_digest held.messages held.keys c.in-Some.entry.now c.args.place at.piece at.inside at.two;
+    }
+
+pub returns-in_err-read-clause-parts : goal.returns-in_err-read-clause-parts
+returns-in_err-read-clause-parts g c honest =
+    let h0 = c.read.ensures.quiet.honest honest in
+    record {
+      messages = (c.requires.parts h0).messages;
+      keys = keys_kept (g.D.Disk.state c.args.disk.now) c.args.self.now c.key_bytes-keys.result (c.requires.legible h0) c.key_bytes-keys.ensures c.args.buffers.now.keys c.read.new.self (c.read.ensures.part honest) (c.requires.parts h0).keys;
+    }
+
+pub returns-in_err-message-clause-parts : goal.returns-in_err-message-clause-parts
+returns-in_err-message-clause-parts g c honest = grind (arith, found)
+
+pub returns-clause-parts : goal.returns-clause-parts
+returns-clause-parts g c honest = grind (arith, found)
+
+pub returns-clause-quiet : goal.returns-clause-quiet
+returns-clause-quiet g c = nothing_twice (g.D.Disk.state c.args.disk.now) (g.D.Disk.state c.read.new.disk) (g.D.Disk.state c.read_at.new.disk) c.read.ensures.quiet c.read_at.ensures.quiet

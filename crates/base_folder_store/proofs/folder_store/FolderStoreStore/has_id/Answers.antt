@@ -1,4 +1,4 @@
-use Rattle.std.{proofs.Common.{◌≡◌, inl, Bool, arith}, specs.List.list_any}
+use Rattle.std.{proofs.Common.{◌≡◌, Bool, arith}, specs.List.list_any}
 use Rattle.echo_filed.specs.Filed.{has_id}
 use Rattle.base_file.specs.Base.{Base}
 use Rattle.base_folder_store.specs.{Opened.held_by, State.IsCached, State.state_of, State.where_so}
@@ -31,6 +31,3 @@ find-found-requires-clause-legible g c honest = legible_open (g.D.Disk.state c.a
 
 pub returns-clause-looks : goal.returns-clause-looks
 returns-clause-looks g c = grind (arith, looks_where, looks, held_quiet, indexed_held, parts_held)
-
-pub returns-clause-many : goal.returns-clause-many
-returns-clause-many g c is = inl (inl (c.find-found.ensures.many is))

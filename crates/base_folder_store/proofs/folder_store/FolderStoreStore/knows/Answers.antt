@@ -1,4 +1,4 @@
-use Rattle.std.proofs.Common.{◌≡◌, inl, Bool, arith}
+use Rattle.std.proofs.Common.{◌≡◌, Bool, arith}
 use Rattle.base_file.specs.Base.{Base, is_known}
 use Rattle.base_folder_store.specs.{Opened.held_by, State.IsCached, State.state_of, State.where_so}
 use Rattle.base_folder_store.proofs.{Bases.recorded_where, Cached.indexed_held, Cached.parts_held, Legible.held_quiet, Legible.legible_open, Seen.key_digest}
@@ -30,6 +30,3 @@ find-found-requires-clause-legible g c honest = legible_open (g.D.Disk.state c.a
 
 pub returns-clause-looks : goal.returns-clause-looks
 returns-clause-looks g c = grind (arith, looks_where, looks, held_quiet, indexed_held, parts_held)
-
-pub returns-clause-many : goal.returns-clause-many
-returns-clause-many g c is = inl (inl (c.find-found.ensures.many is))

@@ -1,14 +1,20 @@
-use Rattle.std.proofs.Common.{ap, sym, ◌∙◌, arith}
+use Rattle.std.proofs.Common.{ap, sym, ◌∙◌}
 use Rattle.std.specs.Option.{option_or}
 use Rattle.echo_text.specs.{Lines.lines, Echo.msgid_of}
 use Rattle.echo_text.proofs.KeptLines.{msgid_of_parts}
 use Rattle.echo_text.proofs.kept.KeptView.msgid.Goals as goal
 
 pub returns-in-Some : goal.returns-in-Some
+unfolding msgid_of
 returns-in-Some c =
     sym
     (ap msgid_of (sym c.self.view_is) ∙ msgid_of_parts (lines c.self.inside.body.now) (lines c.self.inside.tail.now)
     ∙ ap (λ o. option_or o (msgid_of (lines c.self.inside.tail.now))) (sym c.in-Some.ensures))
 
 pub returns-in-None : goal.returns-in-None
-returns-in-None = grind (arith, msgid_of_parts)
+unfolding msgid_of
+returns-in-None c =
+    c.first_id-in-None.ensures
+    ∙ sym
+    (ap msgid_of (sym c.self.view_is) ∙ msgid_of_parts (lines c.self.inside.body.now) (lines c.self.inside.tail.now)
+    ∙ ap (λ o. option_or o (msgid_of (lines c.self.inside.tail.now))) (sym c.in-None.ensures))

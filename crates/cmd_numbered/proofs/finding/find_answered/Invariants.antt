@@ -1,0 +1,17 @@
+use Rattle.std.{proofs.Common.{◌≡◌, ◌≤◌, ℕ}, specs.Option.option_map}
+use Rattle.base_file.specs.Base.{Base}
+use Rattle.base_folder.specs.Source.{AreLegibleTo}
+use Rattle.cmd_numbered.specs.Finding.{answered_as, last_with}
+use Rattle.cmd_numbered.proofs.finding.find_answered.Given as goal
+
+abbrev pub invariant-messages : goal.invariant-messages
+invariant-messages g l = record {
+  ready : (g.M.MessageSource.state l.messages).is_ready;
+  many : (g.M.MessageSource.state l.messages).count ≡ l.count;
+  honest : (g.M.MessageSource.state l.messages).is_honest → (g.M.MessageSource.state l.fn.messages).is_honest;
+  held : (base : Base) → (g.M.MessageSource.state l.fn.messages).holds base → (g.M.MessageSource.state l.messages).holds base;
+  since : (i : ℕ) → (g.M.MessageSource.state l.messages).legible i → (g.M.MessageSource.state l.fn.messages).legible i;
+  read : (g.M.MessageSource.state l.messages).is_honest → AreLegibleTo (g.M.MessageSource.state l.fn.messages) l.i;
+  later : (g.M.MessageSource.state l.fn.messages).failures ≤ (g.M.MessageSource.state l.messages).failures;
+  so_far : (g.M.MessageSource.state l.messages).is_honest → (base : Base) → (g.M.MessageSource.state l.fn.messages).holds base → l.found ≡ option_map answered_as (last_with l.id base.messages l.i);
+}

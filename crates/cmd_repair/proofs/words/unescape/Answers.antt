@@ -1,0 +1,16 @@
+use Rattle.std.proofs.{Common.{◌+◌, ◌++◌, ◌∙◌, [], List, Option, ap, append-nil, arith, drop, get_or, refl, ℕ}, lemmas.List.drop_all}
+use Rattle.std.specs.List.{cons_option}
+use Rattle.cmd_repair.{specs.Ids.unescaped, proofs.Unescaped.read-on}
+use Rattle.cmd_repair.proofs.words.unescape.Goals as goal
+
+pub bytes-preserved : goal.bytes-preserved
+bytes-preserved c =
+    let word = c.args.word.now in
+    let id = c.bytes.id.items in
+    let k = c.bytes.byte-index in
+    ap (λ (s : ℕ). c.push_ended.new.id.items ++ unescaped s (drop (k + 1) word)) c.next_state-state.ensures
+    ∙ read-on word id c.push_ended.new.id.items k c.bytes.state (get_or word k 0) (omega (arith, c.bytes-test.true, c.bytes.auto.byte-index-end)) refl c.bytes.invariant
+    (c.in_ok-push_ended.ensures ∙ ap (λ (o : Option ℕ). id ++ cons_option o []) c.byte_at.ensures)
+
+pub returns : goal.returns
+returns c = grind (arith, drop_all, append-nil)
