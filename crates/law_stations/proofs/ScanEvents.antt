@@ -393,10 +393,10 @@ module _ (stamp : Stamp) (place : Place) (links outbound : List ℕ) (IsTrue : F
       (λ (prepares : IsPreparing place outbound own old base stops.found files c). net-prepares file says counted shown files numbered stops.found is_true (listed stops.opened stops.elsewhere) stops.each c prepares) may))
       (λ met c left. inl (as-it-was c (prepares-shows own files stops.found is_true stops.each c (stops.lasts c left))))
 
-  made-so : {D : Type 0} {state : D → DiskState} (file : LinkFile) → LinksOf at.shows.station.links (Ok file) → (out out_now : Output) (failed : Type 0) (result : Result (Unit {0}) ScanError) (made : Result (List PacketFile) CommandError)
+  made-so : {D : Type 0} (state : D → DiskState) (file : LinkFile) → LinksOf at.shows.station.links (Ok file) → (out out_now : Output) (failed : Type 0) (result : Result (Unit {0}) ScanError) (made : Result (List PacketFile) CommandError)
       → ScansOn stamp (state_in file base) out out_now made → IsPutAs state place outbound (dotted file.system) IsTrue failed old new base (packets_in stamp file base) made result → ScansAsEvent stamp place links outbound IsTrue i d ended was old new result
-  made-so file says out out_now failed result (Ok files) answers put = put-so file says files out out_now answers failed result put
-  made-so file says out out_now failed result (Err why) answers put = stopped-in file says (packets_in stamp file base) (are-numbered base.cursor (scanned file base.messages base.cursor stamp)) failed why result put
+  made-so state file says out out_now failed result (Ok files) answers put = put-so file says files out out_now answers failed result put
+  made-so state file says out out_now failed result (Err why) answers put = stopped-in file says (packets_in stamp file base) (are-numbered base.cursor (scanned file base.messages base.cursor stamp)) failed why result put
 
   -- if it did not run
   shut-so : (result : Result (Unit {0}) ScanError) (fault : Fault) → result ≡ Err (Command (Met fault)) → LeavesOnly old new (RepresentsOrWasLeft place old base) → ScansAsEvent stamp place links outbound IsTrue i d ended was old new result
@@ -408,15 +408,15 @@ module _ (stamp : Stamp) (place : Place) (links outbound : List ℕ) (IsTrue : F
   not-run IsShut Stops out out_now result stopped is (inl not) = shut-so result not.fault (is ∙ ap as_scan not.is) (not.crash base at.shows.represented)
   not-run IsShut Stops out out_now result stopped is (inr stops) = shut-so result stops.fault (is ∙ ap as_scan stops.is) (stops.represented base at.shows.represented).crash
 
-  ran : {D : Type 0} {state : D → DiskState} (Reads : LinkFile → Type 0) (IsShut Stops : Fault → Type 0) (out out_now : Output) (failed : Type 0) (result : Result (Unit {0}) ScanError) → ReadsLinks Reads links old
+  ran : {D : Type 0} (state : D → DiskState) (Reads : LinkFile → Type 0) (IsShut Stops : Fault → Type 0) (out out_now : Output) (failed : Type 0) (result : Result (Unit {0}) ScanError) → ReadsLinks Reads links old
       → ScansIn state stamp place outbound IsTrue Reads IsShut Stops failed old new out out_now result → ScansAsEvent stamp place links outbound IsTrue i d ended was old new result
-  ran Reads IsShut Stops out out_now failed result read (inl run) =
+  ran state Reads IsShut Stops out out_now failed result read (inl run) =
       let on = run.runs base at.shows.represented in
       let of_links = read run.file run.read in
-      made-so run.file (subst (λ (b : List ℕ). LinksOf b (Ok run.file)) (some_same (sym of_links.seen ∙ at.shows.of_links)) of_links.judged) out out_now failed result on.made on.answer on.put
-  ran Reads IsShut Stops out out_now failed result read (inr not) = not-run IsShut Stops out out_now result not.stopped not.is not.not_run
+      made-so state run.file (subst (λ (b : List ℕ). LinksOf b (Ok run.file)) (some_same (sym of_links.seen ∙ at.shows.of_links)) of_links.judged) out out_now failed result on.made on.answer on.put
+  ran state Reads IsShut Stops out out_now failed result read (inr not) = not-run IsShut Stops out out_now result not.stopped not.is not.not_run
 
-pub scan-does : {D : Type 0} {state : D → DiskState} (stamp : Stamp) (place : Place) (outbound : List ℕ) (IsTrue : Files → Type 0) (Reads : LinkFile → Type 0) (IsShut Stops : Fault → Type 0) (failed : Type 0) (old new : DiskState) (out out_now : Output) (result : Result (Unit {0}) ScanError)
+pub scan-does : {D : Type 0} (state : D → DiskState) (stamp : Stamp) (place : Place) (outbound : List ℕ) (IsTrue : Files → Type 0) (Reads : LinkFile → Type 0) (IsShut Stops : Fault → Type 0) (failed : Type 0) (old new : DiskState) (out out_now : Output) (result : Result (Unit {0}) ScanError)
     → UnchangedExcept (IsTouched place.is_own outbound) old new → ScansIn state stamp place outbound IsTrue Reads IsShut Stops failed old new out out_now result → ScansAsMay stamp place outbound IsTrue Reads old new result
-scan-does stamp place outbound IsTrue Reads IsShut Stops failed old new out out_now result kept scans links i d n ended read away at ends none =
-    ran stamp place links outbound IsTrue i d n ended old new at kept away ends none Reads IsShut Stops out out_now failed result read scans
+scan-does state stamp place outbound IsTrue Reads IsShut Stops failed old new out out_now result kept scans links i d n ended read away at ends none =
+    ran stamp place links outbound IsTrue i d n ended old new at kept away ends none state Reads IsShut Stops out out_now failed result read scans

@@ -24,9 +24,9 @@ module _ (place : Place) (outbound links : List ℕ) (i : ℕ) (d : Disks) (old 
   }
 
   module _ (IsTrue : Files → Type 0) (IsShut Stops : Fault → Type 0) (failed : Type 0) (result : Result (Unit {0}) ScanError) (fault : Fault) (is : result ≡ Err (Command (Met fault))) where
-    put-so : {D : Type 0} {state : D → DiskState} (own : List ℕ) (packets : List PacketFile) (made : Result (List PacketFile) CommandError) → IsPutAs state place outbound own IsTrue failed old new at.shows.station.base packets made result → IsAsBefore place links i d new
-    put-so own packets (Ok files) put = absurd (subst (λ (r : Result (Unit {0}) ScanError). IfErr r (IsOfPlacing failed (IsTaken place.is_own outbound own at.shows.station.base.cursor put.found files put.opened) (most < at.shows.station.base.cursor))) is put.why)
-    put-so own packets (Err why) put = as-before put.shown (λ c left. (put.lasts c left).2.represented)
+    put-so : {D : Type 0} (state : D → DiskState) (own : List ℕ) (packets : List PacketFile) (made : Result (List PacketFile) CommandError) → IsPutAs state place outbound own IsTrue failed old new at.shows.station.base packets made result → IsAsBefore place links i d new
+    put-so state own packets (Ok files) put = absurd (subst (λ (r : Result (Unit {0}) ScanError). IfErr r (IsOfPlacing failed (IsTaken place.is_own outbound own at.shows.station.base.cursor put.found files put.opened) (most < at.shows.station.base.cursor))) is put.why)
+    put-so state own packets (Err why) put = as-before put.shown (λ c left. (put.lasts c left).2.represented)
 
     abbrev is-shut-by : ScanError → Type 0
     is-shut-by (Command (Met why)) = IsShut why
@@ -36,10 +36,10 @@ module _ (place : Place) (outbound links : List ℕ) (i : ℕ) (d : Disks) (old 
         → IsAsBefore place links i d new ⊎ IsShut fault
     not-run out out_now stopped h1 h2 = grind (arith, as-before)
 
-    stays : {D : Type 0} {state : D → DiskState} (stamp : Stamp) (Reads : LinkFile → Type 0) (out out_now : Output) → ScansIn state stamp place outbound IsTrue Reads IsShut Stops failed old new out out_now result → IsAsBefore place links i d new ⊎ IsShut fault
-    stays stamp Reads out out_now h1 = grind (arith, put-so, not-run)
+    stays : {D : Type 0} (state : D → DiskState) (stamp : Stamp) (Reads : LinkFile → Type 0) (out out_now : Output) → ScansIn state stamp place outbound IsTrue Reads IsShut Stops failed old new out out_now result → IsAsBefore place links i d new ⊎ IsShut fault
+    stays state stamp Reads out out_now h1 = grind (arith, put-so, not-run)
 
-pub scan-stays : {D : Type 0} {state : D → DiskState} (stamp : Stamp) (place : Place) (outbound : List ℕ) (IsTrue : Files → Type 0) (Reads : LinkFile → Type 0) (IsShut Stops : Fault → Type 0) (failed : Type 0) (old new : DiskState) (out out_now : Output) (result : Result (Unit {0}) ScanError)
+pub scan-stays : {D : Type 0} (state : D → DiskState) (stamp : Stamp) (place : Place) (outbound : List ℕ) (IsTrue : Files → Type 0) (Reads : LinkFile → Type 0) (IsShut Stops : Fault → Type 0) (failed : Type 0) (old new : DiskState) (out out_now : Output) (result : Result (Unit {0}) ScanError)
     → UnchangedExcept (IsTouched place.is_own outbound) old new → ScansIn state stamp place outbound IsTrue Reads IsShut Stops failed old new out out_now result → StaysWhereScanMet place outbound IsShut old new result
-scan-stays stamp place outbound IsTrue Reads IsShut Stops failed old new out out_now result kept scans links i d away at fault is =
-    stays place outbound links i d old new at kept away IsTrue IsShut Stops failed result fault is stamp Reads out out_now scans
+scan-stays state stamp place outbound IsTrue Reads IsShut Stops failed old new out out_now result kept scans links i d away at fault is =
+    stays place outbound links i d old new at kept away IsTrue IsShut Stops failed result fault is state stamp Reads out out_now scans
