@@ -1,5 +1,5 @@
 -- The area in link files, and the keys of its messages.
-use Rattle.std.{proofs.{Common.{◌≡◌, inl, inr, refl, sym, ap, ◌∙◌, ℕ, IsTrue, List, [], ◌∷◌, map, Some, arith, nat_lt, ◌≢◌, ◌⊎◌, ◌++◌}, lemmas.Bool.{cond-true, cond-false, Decides.nat_tests}}, specs.{Prelude.{Bool, true, false, bytes_eq, is_some, ◌&&◌, not, find}, List.{AllByRecursion, list_all}, Char.to_ascii_uppercase, Cmp.Lexicographic.bytes_decides}}
+use Rattle.std.{proofs.{Common.{◌≡◌, inl, inr, refl, sym, ap, ◌∙◌, ℕ, IsTrue, List, [], ◌∷◌, map, Some, arith, nat_lt, ◌≢◌, ◌⊎◌, ◌++◌}, lemmas.Bool.{not-true, cond-true, cond-false, Decides.nat_tests}}, specs.{Prelude.{Bool, true, false, bytes_eq, is_some, ◌&&◌, not, find}, List.{AllByRecursion, list_all}, Char.to_ascii_uppercase, Cmp.Lexicographic.bytes_decides}}
 use Rattle.echo_addr.specs.{declared.address.Address.Address, Address.IsAddress, Address.net_node_of, declared.address.NetNode.NetNode}
 use Rattle.model_graph.{specs.Walk.{Among, Different}, proofs.Members.{Among-at, Among-append_cases, Among-append_left, Among-append_right, Among-from_Contains, Contains-from_Among}}
 use Rattle.model_run.{specs.{Nets.Joined, Run.System, Orderly.tag_of, Tidy.{lists, Carries}, AreaNets.net_of}, proofs.{Lists.{not_both, and-parts, and-from, any-to, any-from, Among-map_to, Among-map_from, yes_or_no, Among-filter_from, Among-filter_to}, TosserPremises.Laws}}
@@ -36,6 +36,9 @@ one_name g (z ∷ xs) d x y i j e = grind (arith, Among-at, Among-map_to, one_na
 pub map-map : {X Y Z : Type 0} (g : Y → Z) (f : X → Y) (xs : List X) → map g (map f xs) ≡ map (λ x. g (f x)) xs
 map-map g f [] = refl
 map-map g f (x ∷ xs) = ap (λ (zs : List _). g (f x) ∷ zs) (map-map g f xs)
+
+pub names-are : (ss : List System) (files : List LinkFile) → map (λ (s : System). s.file) ss ≡ files → map address_of ss ≡ map (λ (f : LinkFile). f.system) files
+names-are ss files e = sym (map-map (λ (f : LinkFile). f.system) (λ (s : System). s.file) ss) ∙ ap (λ (fs : List LinkFile). map (λ (f : LinkFile). f.system) fs) e
 
 pub link-has_area : (file : LinkFile) (tag : List ℕ) (a : Address) → is_link file tag a ≡ true → has_area file tag ≡ true
 unfolding links_of
@@ -99,9 +102,6 @@ unfolding links_of
 link-area file tag a h = grind arith
 
 -- Targets of a message, and the entries of an exported copy.
-
-not-true : (b : Bool) → not b ≡ true → b ≡ false
-not-true b h1 = grind (arith, not_both)
 
 pub link-among : (file : LinkFile) (tag : List ℕ) (a : Address) → is_link file tag a ≡ true → Among a (links_of file tag)
 link-among file tag a h = grind (arith, any-from, same_address_decides)

@@ -1,12 +1,12 @@
 -- Beside repairs, what no repair sends keeps the promise, and what is known stays known.
-use Rattle.std.{proofs.Common.{◌≡◌, refl, sym, subst, ap, ◌∙◌, ℕ, arith, List, [], ◌∷◌, map, Option, Some, None}, specs.Prelude.{Bool, IsTrue}}
+use Rattle.std.{proofs.Common.{◌≡◌, refl, sym, ap, ◌∙◌, ℕ, arith, List, [], ◌∷◌, map, Option, Some, None}, specs.Prelude.{Bool, IsTrue}}
 use Rattle.echo_addr.specs.declared.address.Address.{Address}
 use Rattle.model_graph.{specs.{Walk.{Among, Different}, Cycle.Polygons}, proofs.Members.Among-append_left}
 use Rattle.echo_links.specs.Links.{LinkFile}
 use Rattle.echo_filed.specs.{declared.key.Key.Key, Filed.key_of, Filed.same_key}
 use Rattle.base_file.specs.Base.{is_known}
 use Rattle.model_steps.specs.{declared.stamp.Stamp.Stamp}
-use Rattle.model_run.{specs.{Run.{System, Run, nth}, Orderly.{copies, count, tag_of}, Tidy.{Joined, lists}, AnyState.{IsNew, IsNotLost, IsOrderly}, States.{IsDeliveredOnce, RunOk, files_of}, Repair.{AllSendOther, Besides, RepairEvent, ResendAll, SendsOther, after_repair, after_repairs, resending, rest_packet}}, proofs.{Lists.{nth-among, same_list as Among-in}, AnyState.{in-area, new-none, not-lost, orderly}, Areas.{address_of, map-map, one_name}, Bases.{HasKey, count-is, event-ok, known-from_history, known-in_history}, HarmLists.among-nth, Histories.Standing, LaterSystems.events-last, Repairs.{packet-once, resent-ok}, StandingRuns.{event-stands, none-stands, packet-stands}, TosserPremises.Laws, WholeRuns.event-files}}
+use Rattle.model_run.{specs.{Run.{System, Run, nth}, Orderly.{copies, count, tag_of}, Tidy.{Joined, lists}, AnyState.{IsNew, IsNotLost, IsOrderly}, States.{IsDeliveredOnce, RunOk, files_of}, Repair.{AllSendOther, Besides, RepairEvent, ResendAll, SendsOther, after_repair, after_repairs, resending, rest_packet}}, proofs.{Lists.{nth-among, same_list as Among-in}, AnyState.{in-area, new-none, not-lost, orderly}, Areas.{address_of, names-are, one_name}, Bases.{HasKey, count-is, event-ok, known-from_history, known-in_history}, HarmLists.among-nth, Histories.Standing, LaterSystems.events-last, Repairs.{packet-once, resent-ok}, StandingRuns.{event-stands, none-stands, packet-stands}, TosserPremises.Laws, WholeRuns.event-files}}
 use Rattle.model_run.proofs.TosserPremises as counts
 
 module _ (laws : Laws) (first : Run) (tag : List ℕ) (ok : RunOk first) (delivered : IsDeliveredOnce first) (joined : Joined (files_of first) tag)
@@ -102,8 +102,6 @@ still-knows laws before ok differ events s h key is z j at_z =
       called = refl;
       has = known-in_history laws s (ok.systems s h) key is;
     }) in
-    let names : (run : Run) → map address_of run.systems ≡ map (λ (f : LinkFile). f.system) (files_of run) =
-    λ run. sym (map-map (λ (f : LinkFile). f.system) (λ (t : System). t.file) run.systems) in
-    let differ_after = rw (names before ∙ (ap (λ (fs : List LinkFile). map (λ (f : LinkFile). f.system) fs) (sym known.files) ∙ sym (names after))) at differ in
+    let differ_after = rw (names-are before.systems (files_of before) refl ∙ sym (names-are after.systems (files_of before) known.files)) at differ in
     let one : known.system ≡ z = one_name address_of after.systems differ_after known.system z (nth-among i known.system after.systems known.there) j (known.called ∙ sym at_z) in
     rw one at (known-from_history laws known.system (known.ok.systems known.system (nth-among i known.system after.systems known.there)) key known.has)

@@ -1,5 +1,5 @@
 -- The contents of the packets of a scan.
-use Rattle.std.{proofs.Common.{◌≡◌, ◌≢◌, inl, inr, refl, ap, List, [], ◌∷◌, ◌++◌, map, Option, Some, arith}, specs.{Prelude.{Bool, true, false, filter, not, is_none, unwrap_or, option_map}, List.flat_map}}
+use Rattle.std.{proofs.{Common.{◌≡◌, ◌≢◌, inl, inr, refl, ap, List, [], ◌∷◌, ◌++◌, map, Option, Some, arith}, lemmas.Bool.not-true}, specs.{Prelude.{Bool, true, false, filter, not, is_none, unwrap_or, option_map}, List.flat_map}}
 use Rattle.echo_addr.specs.{declared.address.Address.Address, declared.address.NetNode.NetNode, Address.net_node_of}
 use Rattle.model_graph.{specs.Walk.{Among, Different}, proofs.Members.Among-at}
 use Rattle.echo_packet.specs.Message.{Message}
@@ -70,9 +70,6 @@ module _ (laws : Laws) (file : LinkFile) where
     pub link : is_link file m.echo.tag a ≡ true
     pub not_sender : m.sender ≢ Some a
     pub not_seen : ¬ Among (net_node_of a) m.echo.seen
-
-  not-true : (b : Bool) → not b ≡ true → b ≡ false
-  not-true h1 e = grind arith
 
   false-not : (b : Bool) → b ≡ false → not b ≡ true
   false-not b e = ap not e

@@ -44,7 +44,7 @@ delivery-packets run k found = grind arith
 part-packets : (run : Run) (messages : ℕ) (found : Option Packet) → (part_delivery run messages found).packets ≡ run.packets
 part-packets run messages found = grind arith
 
-event-packets : (run : Run) (n : ℕ) (event : RunEvent) →
+pub event-packets : (run : Run) (n : ℕ) (event : RunEvent) →
     (after_event run event).packets ≡ run.packets ++ map (λ (e : Export). e.packet) (event_exports run n event)
 event-packets run n event = grind (arith, append-nil, scan-packets, delivery-packets, part-packets)
 

@@ -5,8 +5,8 @@ use Rattle.model_graph.{specs.Walk.{Among, Different}, proofs.Members.Among-appe
 use Rattle.model_steps.specs.{declared.packet.Packet.Packet, Posting.posted, Scanning.is_seen_by}
 use Rattle.echo_text.specs.Echo.{EchoText}
 use Rattle.echo_links.specs.Links.{LinkFile, has_area, is_link, links_of}
-use Rattle.echo_filed.specs.{declared.key.Key.Key, Filed.Filed, Filed.key_of}
-use Rattle.model_run.{specs.{Run.{Run, System, destination, nth, run_of, filing, fresh, scanning_at}, Event.RunEvent, Exports.{Export, IsSentCopy, exports, sent_by}, Tidy.{Carries, lists}, Grave.AllAreCarriers, Harms.{Harm, SentItsOwn}, Postings.{IsMove, trial_posting, post_and_scan}, LawsOfRuns.LawsOfRuns, Orderly.{IsPosting, Settled, copies, count, origin, sent_count, tag_of}}, proofs.{OneMessage.{Arrived, OnlyPosted, only-posted, post_of, post_of-tag, poster, counted, counted-one, one-or_zero, sent-part, sent-two, posted-at}, Places.{carrier-file, file-carries, file-lists, lists-link, one-system, lists-file}, Lists.{Among-take, not_both, nth-among}, HarmLists.{among-nth, nth-map, nth-changed}, Resting.{export-of, file-there, system-there}, Spreads.{Came, Spread}, HarmSteps.{run-files, after_one_more}, Targets.{some_same, none_some}, Areas.{link-area, among-link, among-seen, exported-path, listed-from, listed-to, seen-among, target-link, target-to, target-unseen, link-among, key-tag}}}
+use Rattle.echo_filed.specs.{Filed.Filed, Filed.key_of}
+use Rattle.model_run.{specs.{Run.{Run, System, destination, nth, run_of, filing, fresh, scanning_at}, Event.RunEvent, Exports.{Export, IsSentCopy, exports, sent_by}, Tidy.{Carries, lists}, Grave.AllAreCarriers, Harms.{Harm, SentItsOwn}, Postings.{IsMove, trial_posting, post_and_scan}, LawsOfRuns.LawsOfRuns, Orderly.{IsPosting, Settled, count, origin, sent_count, tag_of}}, proofs.{OneMessage.{Arrived, OnlyPosted, only-posted, post_of, post_of-tag, poster, counted, counted-one, one-or_zero, sent-part, sent-two, posted-at}, Places.{carrier-file, file-carries, file-lists, lists-link, one-system, lists-file}, Lists.{Among-take, not_both, nth-among}, HarmLists.{among-nth, nth-map, nth-changed}, Resting.{export-of, file-there, system-there}, Spreads.{Came, Spread}, HarmSteps.{run-files, after_one_more}, Targets.{some_same, none_some}, Areas.{link-area, among-link, among-seen, exported-path, listed-from, listed-to, seen-among, target-link, target-to, target-unseen, link-among, key-tag}}}
 
 some-or_all : {X : Type 0} (P Q : X → Type 0) → ((x : X) → P x ⊎ Q x) → (xs : List X) → ((x : X) × Among x xs × P x) ⊎ ((x : X) → Among x xs → Q x)
 some-or_all P Q decide [] = inr (λ x h. absurd h)

@@ -1,5 +1,5 @@
 -- Items of lists by their index, and members of mapped and filtered lists.
-use Rattle.std.{proofs.{Common.{◌≡◌, ◌≢◌, ◌⊎◌, inl, inr, refl, subst, ap, ◌∙◌, ℕ, zero, suc, arith, List, [], ◌∷◌, ◌++◌, length, take, drop, map, Some, None}, lemmas.Bool.{cond-true, cond-false, eq-eqb}}, specs.{Prelude.{Bool, true, false, filter, ◌&&◌, ◌||◌}, List.{flat_map, list_any, position_or_len}}}
+use Rattle.std.{proofs.{Common.{◌≡◌, ◌≢◌, ◌⊎◌, inl, inr, refl, subst, ap, ◌∙◌, ℕ, zero, suc, arith, List, [], ◌∷◌, ◌++◌, length, take, drop, map, Some, None}, lemmas.Bool.{cond-true, cond-false, eq-eqb, eqb-true}}, specs.{Prelude.{Bool, true, false, filter, ◌&&◌, ◌||◌}, List.{flat_map, list_any, position_or_len}}}
 use Rattle.model_graph.{specs.Walk.{Among, Different}, proofs.Members.{Among-append_cases, Among-append_left, Among-append_right}}
 use Rattle.model_run.{specs.Run.{nth, change, with_index}, proofs.Targets.none_some}
 
@@ -139,6 +139,12 @@ pub map-change : {X Y : Type 0} (g : X → Y) (i : ℕ) (f : X → X) → ((x : 
 map-change g i f same [] = refl
 map-change g zero f same (x ∷ xs) = (let e = same x in cc)
 map-change g (suc i) f same (x ∷ xs) = (let e = map-change g i f same xs in cc)
+
+pub with_index-new : (k : ℕ) (ks : List ℕ) → Among k (with_index k ks)
+with_index-new k ks = grind (arith, any-from, eqb-true)
+
+pub with_index-old : (k j : ℕ) (ks : List ℕ) → Among j ks → Among j (with_index k ks)
+with_index-old k j ks h = grind arith
 
 pub with_index-from : (k j : ℕ) (ks : List ℕ) → Among j (with_index k ks) → (j ≡ k) ⊎ Among j ks
 with_index-from k j ks h = grind arith

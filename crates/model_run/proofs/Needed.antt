@@ -1,5 +1,5 @@
 -- Nets of a few systems that are all linked with each other: they are tidy.
-use Rattle.std.{proofs.{Common.{◌≡◌, ◌≢◌, inl, inr, refl, sym, ap, ◌∙◌, ℕ, ◌<◌, arith, IsTrue, List, [], ◌∷◌, ◌↔◌, subst, Some, None}, lemmas.Bool.{ltb-true, lt-ltb, and_parts, and_from, Decides.eqb_tells}}, specs.Prelude.{Bool, true, false, not, ◌&&◌, ◌==◌, nat_lt}}
+use Rattle.std.{proofs.{Common.{◌≡◌, ◌≢◌, inl, inr, refl, sym, ap, ◌∙◌, ℕ, ◌<◌, arith, IsTrue, List, [], ◌∷◌, ◌↔◌, Some, None}, lemmas.Bool.{ltb-true, lt-ltb, and_parts, and_from, Decides.eqb_tells}}, specs.Prelude.{Bool, true, false, not, ◌&&◌, ◌==◌, nat_lt}}
 use Rattle.model_graph.{specs.{Walk.{Among, Simple}, Cycle.Cycle}, proofs.Members.{ℕ-can_tell, walk_links}}
 use Rattle.model_run.{specs.{Events.{Text, Filed, Copy, Event, Posts, Exports, Comes, Has, exported, filed}, Nets.{Net, Tidy}, RulesOrderly.{IsMet, IsNeeded, IsSettled}, Rules.{IsTarget, IsSentOnce, HasSeenBy, Rule, Kept, Always, IsPossible, ListsAll, filing, keeping, sending, telling, keys}}, proofs.{Targets.some_same, Chain.{chain, chain-parts, chain-tidy}}}
 

@@ -1,5 +1,5 @@
 -- One system posts, and then messages only move: the holders of the message, and their senders.
-use Rattle.std.{proofs.{Common.{◌≡◌, ◌⊎◌, inl, inr, refl, sym, subst, ap, ◌∙◌, ℕ, ◌≤◌, ◌==◌, arith, List, [], ◌∷◌, ◌++◌, length, take, map, Option, Some, None, ◌≢◌, ◌+◌}, lemmas.Bool.{cond-false, eqb-true, cond-true}}, specs.{Prelude.{Bool, true, false, if◌then◌else◌}, List.AllByRecursion}}
+use Rattle.std.{proofs.{Common.{◌≡◌, ◌⊎◌, inl, inr, refl, sym, ap, ◌∙◌, ℕ, ◌≤◌, ◌==◌, arith, List, [], ◌∷◌, ◌++◌, length, take, map, Option, Some, None, ◌≢◌, ◌+◌}, lemmas.Bool.{cond-false, eqb-true, cond-true}}, specs.{Prelude.{Bool, true, false, if◌then◌else◌}, List.AllByRecursion}}
 use Rattle.echo_addr.specs.declared.address.Address.{Address}
 use Rattle.model_graph.{specs.Walk.Among, proofs.Members.Among-append_left}
 use Rattle.echo_packet.specs.Message.{Message}

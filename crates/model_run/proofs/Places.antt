@@ -5,7 +5,7 @@ use Rattle.model_graph.specs.Walk.{Among, Different}
 use Rattle.echo_links.{specs.Links.{LinkFile, has_area, is_link, links_of}, proofs.Addresses.same_address_decides}
 use Rattle.model_run.{specs.{Event.RunEvent, Run.{System, nth, run_of}, Tidy.{Carries, lists}, LawsOfRuns.LawsOfRuns}, proofs.{Lists.{and-from, and-parts, any-from, any-to, nth-among, Among-map_to}, HarmLists.nth-map, Resting.file-there, HarmSteps.run-files, Targets.{some_same, none_some}, Areas.{one_name as different-same, link-area, link-among}}}
 
-different-index : {X Y : Type 0} (g : X → Y) (xs : List X) → Different (map g xs) → (i j : ℕ) (x y : X) → nth i xs ≡ Some x → nth j xs ≡ Some y → g x ≡ g y → i ≡ j
+pub different-index : {X Y : Type 0} (g : X → Y) (xs : List X) → Different (map g xs) → (i j : ℕ) (x y : X) → nth i xs ≡ Some x → nth j xs ≡ Some y → g x ≡ g y → i ≡ j
 different-index {X} {Y} g [] d i j x y at_i at_j e = absurd (none_some at_i)
 different-index g (z ∷ xs) d zero zero x y at_i at_j e = refl
 different-index {X} {Y} g (z ∷ xs) d zero (suc j) x y at_i at_j e =

@@ -1,12 +1,12 @@
 -- The number of some keys that each system lacks: it falls with each filed message.
-use Rattle.std.{proofs.{Common.{◌≡◌, ◌⊎◌, inl, inr, refl, sym, subst, ap, ◌∙◌, ℕ, zero, suc, ◌+◌, ◌<◌, ◌≤◌, arith, List, [], ◌∷◌, ◌++◌, Option, Some, None, ◌≢◌, length, take, drop, map}, lemmas.{Bool.{cases_eq, eqb-true}, List.{append_assoc, append-nil, drop_all}}}, specs.{Prelude.{Bool, true, false, if◌then◌else◌, ◌&&◌, filter, is_none}, List.AllByRecursion}}
+use Rattle.std.{proofs.{Common.{◌≡◌, ◌⊎◌, inl, inr, refl, sym, subst, ap, ◌∙◌, ℕ, zero, suc, ◌+◌, ◌<◌, ◌≤◌, arith, List, [], ◌∷◌, ◌++◌, Option, Some, None, ◌≢◌, length, take, drop, map}, lemmas.{Bool.{cases_eq}, List.{append_assoc, append-nil, drop_all}}}, specs.{Prelude.{Bool, true, false, if◌then◌else◌, ◌&&◌, filter, is_none}, List.AllByRecursion}}
 use Rattle.echo_addr.specs.declared.address.Address.{Address}
 use Rattle.model_graph.{specs.Walk.Among, proofs.Members.{Among-append_left, Among-append_right}}
 use Rattle.echo_packet.specs.Message.{Message}
 use Rattle.echo_filed.{specs.{declared.key.Key.Key, Filed.{Filed, key_of, same_key, key_with}, Written.echo_of}, proofs.Keys.same_key_decides}
 use Rattle.base_file.specs.Base.{is_known}
 use Rattle.model_steps.specs.{Tossing.received, Tossing.tossing, Tossing.sender_of, declared.packet.Packet.Packet}
-use Rattle.model_run.{specs.{Run.{System, change, filing, tossing_at, Run, coming, delivery, destination, nth, receiver, run_of, scanning, scanning_at, taking, with_index}, Event.{RunEvent, Scanning, Delivery}, Orderly.{Settled, copies, origin}, Exports.{Export, exports}, Tidy.lists, Grave.AllAreCarriers, Postings.{IsMove, trial_moment}, LawsOfRuns.LawsOfRuns}, proofs.{Lists.{any-from, any-to, not_both, Among-change, Among-filter_to, Among-take, and-from, and-parts, nth-among, nth-change, Among-map_to, Among-map_from}, HarmSteps.{tossing-is, after_one_more, all-append, run-files, tossing-new}, HarmLists.{none_passes, among-nth, nth-index, nth-middle}, Targets.{some_same, none_some}, Areas.{among-link, exported-tag, target-link}}}
+use Rattle.model_run.{specs.{Run.{System, change, filing, tossing_at, Run, coming, delivery, destination, nth, receiver, run_of, scanning, scanning_at, taking}, Event.{RunEvent, Scanning, Delivery}, Orderly.{Settled, copies, origin}, Exports.{Export, exports}, Tidy.lists, Grave.AllAreCarriers, Postings.{IsMove, trial_moment}, LawsOfRuns.LawsOfRuns}, proofs.{Lists.{any-from, any-to, not_both, Among-change, Among-filter_to, Among-take, and-from, and-parts, nth-among, nth-change, with_index-new, with_index-old, Among-map_to, Among-map_from}, HarmSteps.{tossing-is, after_one_more, all-append, run-files, tossing-new}, HarmLists.{none_passes, among-nth, nth-index, nth-middle}, Targets.{some_same, none_some}, Areas.{among-link, exported-tag, target-link}}}
 use Rattle.echo_text.specs.{Refusal.text_refusal, declared.fault.TextFault.TextFault, Echo.msgid_of}
 use Rattle.echo_links.{specs.Links.{LinkFile, is_link, same_address}, proofs.Addresses.same_address_decides}
 
@@ -134,12 +134,6 @@ module _ (files : List LinkFile) (known : LawsOfRuns files) where
       systems : after.systems ≡ before.systems
       packets : after.packets ≡ before.packets
       came : (k : ℕ) (p : Packet) → k < n → nth k after.packets ≡ Some p → Among k after.delivered ⊎ GoesNowhere p
-
-    pub with_index-new : (k : ℕ) (ks : List ℕ) → Among k (with_index k ks)
-    with_index-new k ks = grind (arith, any-from, eqb-true)
-
-    pub with_index-old : (k j : ℕ) (ks : List ℕ) → Among j ks → Among j (with_index k ks)
-    with_index-old k j ks h = grind arith
 
     -- a packet comes
     module _ (events : List RunEvent) (within : Within (run_of files events)) (k : ℕ) where

@@ -1,5 +1,5 @@
 -- A scan exports the waiting messages, one at a time.
-use Rattle.std.{proofs.{Common.{◌≡◌, ◌≢◌, ◌⊎◌, ◌↔◌, inl, inr, refl, sym, subst, ap, ◌∙◌, ℕ, ◌+◌, arith, List, [], ◌∷◌, ◌++◌, append_assoc, length, take, drop, map, Some}, lemmas.{Bool.cond-false, List.{take-append-drop, take_all}}}, specs.Prelude.{Bool, IsTrue, false, filter, ◌&&◌}}
+use Rattle.std.{proofs.{Common.{◌≡◌, ◌≢◌, ◌⊎◌, ◌↔◌, inl, inr, refl, sym, ap, ◌∙◌, ℕ, ◌+◌, arith, List, [], ◌∷◌, ◌++◌, append_assoc, length, take, drop, map, Some}, lemmas.{Bool.cond-false, List.{take-append-drop, take_all}}}, specs.Prelude.{Bool, IsTrue, false, filter, ◌&&◌}}
 use Rattle.echo_addr.specs.declared.address.{Address.Address, NetNode.NetNode}
 use Rattle.model_graph.{specs.Walk.{Among, Different}, proofs.Members.{Among-at, Among-append_left, Among-append_right, Among-append_cases}}
 use Rattle.model_steps.specs.{declared.packet.Packet.Packet, declared.stamp.Stamp.Stamp, Scanning.goes_to, Scanning.scanned, Scanning.targets}

@@ -3,7 +3,7 @@ use Rattle.std.{proofs.{Common.{◌≡◌, inl, inr, refl, sym, subst, ◌≤◌
 use Rattle.echo_addr.specs.declared.address.Address.{Address}
 use Rattle.model_graph.{specs.Walk.Among, proofs.Members.Among-append_cases}
 use Rattle.echo_packet.specs.Message.{HasNoZero, Message}
-use Rattle.echo_text.{specs.{Echo.{EchoText, IsEcho}, Refusal.text_refusal}, proofs.Reread.read_is_echo}
+use Rattle.echo_text.{specs.{Echo.{IsEcho}, Refusal.text_refusal}, proofs.Reread.read_is_echo}
 use Rattle.echo_links.specs.Links.{IsFile, LinkFile}
 use Rattle.echo_filed.{specs.{declared.key.Key.Key, Filed.{Filed, key_of, same_key}, Written.echo_of}, proofs.Texts.says_read}
 use Rattle.base_file.specs.Base.{is_known}

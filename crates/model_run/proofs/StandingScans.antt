@@ -1,11 +1,11 @@
 -- A scan keeps the rules.
-use Rattle.std.{proofs.{Common.{◌≡◌, ◌↔◌, inl, inr, refl, sym, subst, ap, ◌∙◌, ℕ, ◌+◌, ◌≤◌, arith, IsTrue, List, [], ◌∷◌, ◌++◌, take, drop, map, Some}, lemmas.List.take-append-drop}, specs.Prelude.{Bool, true}}
+use Rattle.std.{proofs.{Common.{◌≡◌, ◌↔◌, inl, inr, refl, sym, ap, ◌∙◌, ℕ, ◌+◌, ◌≤◌, arith, IsTrue, List, [], ◌∷◌, ◌++◌, take, drop, map, Some}, lemmas.List.take-append-drop}, specs.Prelude.{Bool, true}}
 use Rattle.echo_addr.specs.{declared.address.Address.Address, declared.address.NetNode.NetNode, Address.net_node_of}
 use Rattle.model_graph.{specs.Walk.Among, proofs.Members.{Among-append_right, Among-append_cases}}
 use Rattle.model_steps.specs.{declared.stamp.Stamp.Stamp, Scanning.scanned, Scanning.targets}
 use Rattle.echo_links.specs.Links.{LinkFile, is_link, links_of, same_address}
 use Rattle.echo_filed.specs.{Sets.address_set, declared.key.Key.Key, Filed.Filed, Filed.key_of, Filed.same_key}
-use Rattle.model_run.{specs.{Run.{System, Run, change, nth, scanning_at}, Nets.Net, Rules.{IsTarget, HasPlainSeenBy}, Orderly.{count, tag_of}, Tidy.{Joined, lists}, AreaNets.net_of, Keeping.filed_as}, proofs.{Lists.{any-from, any-to, map-change, nth-among, Among-drop, same_list as Among-in, Among-map_to, Among-map_from}, Areas.{Wrote, address_of, key-tag, link-lists, lists-link, one-system}, Plain.ArePlain, TosserPremises.{Laws, count-has}, Bases.{SystemOk, count-is, RunOk, scanned-ok}, ExportLists.{count-append, count-filter}, WholeRuns.IsDeliveredOnce, Copies.{copied, copied-content, copied-key, copied-seen, seen-copied, targets-from, targets-to}, Histories.{REvent, RFiled, before-then, Equal, Standing, filed-event}, Scanned.{exported-are, exports, filed-are, history-scans, waits, waits-from}}}
+use Rattle.model_run.{specs.{Run.{System, Run, change, nth, scanning_at}, Nets.Net, Rules.{IsTarget, HasPlainSeenBy}, Orderly.{count, tag_of}, Tidy.{Joined, lists}, AreaNets.net_of, Keeping.filed_as}, proofs.{Lists.{any-from, any-to, map-change, nth-among, Among-drop, same_list as Among-in, Among-map_to, Among-map_from}, Areas.{address_of, key-tag, link-lists, lists-link, one-system}, Plain.ArePlain, TosserPremises.{Laws, count-has}, Bases.{SystemOk, count-is, RunOk, scanned-ok}, ExportLists.{count-append, count-filter}, WholeRuns.IsDeliveredOnce, Copies.{copied, copied-content, copied-key, copied-seen, seen-copied, targets-from, targets-to}, Histories.{REvent, RFiled, before-then, Equal, Standing, filed-event}, Scanned.{exported-are, exports, filed-are, history-scans, waits, waits-from}}}
 use Rattle.model_run.specs.Events as rules
 
 module _ (laws : Laws) (files : List LinkFile) (tag : List ℕ) (mine : Key → Bool) (of_area : (k : Key) → IsTrue (mine k) → tag_of k ≡ tag) (joined : Joined files tag)

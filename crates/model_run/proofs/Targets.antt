@@ -1,4 +1,5 @@
 -- Properties of a run by the rules at all times.
+use Rattle.std.specs.Prelude.{is_none, true}
 use Rattle.std.proofs.Common.{◌≡◌, ◌≢◌, ◌⊎◌, IsTrue, List, map, Some, None, inl, inr, sym, subst, ◌∙◌, ◌∷◌, Option, arith}
 use Rattle.model_graph.{specs.{Walk.{Among, Different, Simple, Reaches}, Beyond.{Beyond, IsWay, Parted}}, proofs.{Members.{CanTell, Among-at, linked_differ, walk_ends, Around-step, Around-trans, Beyond-from_no_around, no_around-from_Beyond}, Cycles.{Around-from_Beyond, Beyond-trans, way-not_beyond, link_cases, further, Parted-from_Polygons}}}
 use Rattle.model_run.specs.{Events.Text, Events.Filed, Events.Copy, Events.Event, Events.filed, Events.exported, Events.copies, Events.came, Events.Has, Nets.Net, Nets.Tidy, RulesOrderly.place, RulesOrderly.goal, Rules.IsTarget, Rules.HasSeenBy}
@@ -70,6 +71,9 @@ module _ {A N K C : Type 0} (net : Net A N) (Same : C → C → Type 0) (v : Vie
 
 pub none_some : {X : Type 0} {x : X} → (let none : Option X = None in none ≡ Some x) → ⊥
 none_some e = cc
+
+pub is-none : {X : Type 0} (o : Option X) → is_none o ≡ true → o ≡ None
+is-none o e = grind arith
 
 pub some_same : {X : Type 0} {x y : X} → Some x ≡ Some y → x ≡ y
 some_same e = cc

@@ -1,7 +1,6 @@
-use Rattle.std.{proofs.Common.{◌≡◌, subst, List}, specs.Prelude.IsTrue}
-use Rattle.echo_links.specs.Links.{LinkFile}
+use Rattle.std.{proofs.Common.{◌≡◌}, specs.Prelude.IsTrue}
 use Rattle.echo_filed.specs.declared.key.Key.{Key}
-use Rattle.model_run.{specs.{AreaNets.net_of, Keeping.in_area, Orderly.tag_of, Run.start}, proofs.{Areas.bytes-same, Bases.start-ok, Changes.fresh-none, Histories.{Equal, Standing}, Plain.{plain-kept, plain-possible}, StandingRuns.{events-stand, none-stands}, TosserLaws.{the_laws, tidy_net}, WholeRuns.fresh-files}}
+use Rattle.model_run.{specs.{AreaNets.net_of, Keeping.in_area, Orderly.tag_of, Run.start}, proofs.{Areas.bytes-same, Bases.start-ok, Changes.fresh-none, Histories.{Equal}, Plain.{plain-kept, plain-possible}, StandingRuns.{events-stand, none-stands}, TosserLaws.{the_laws, tidy_net}, WholeRuns.fresh-files}}
 use Rattle.model_run.proofs.rules_laws.this_tosser_keeps_the_rules.Goals as goal
 
 pub returns : goal.returns

@@ -1,5 +1,5 @@
-use Rattle.std.proofs.Common.{◌≤◌, ◌∷◌, subst, sym}
-use Rattle.model_run.{specs.Lone.{LoneSystem, PurgeHere, after_lone, lone_run}, proofs.Filings.{event-left, left-waiting, run-left, events-purged, run-append, run-lasts}}
+use Rattle.std.proofs.Common.{◌∷◌}
+use Rattle.model_run.{specs.Lone.{PurgeHere, after_lone, lone_run}, proofs.Filings.{event-left, left-waiting, run-left, events-purged, run-append, run-lasts}}
 use Rattle.model_run.proofs.stranger_laws.what_was_filed_stays.Goals as goal
 
 pub returns : goal.returns
