@@ -1,14 +1,11 @@
 -- The contents of one station without crashes are those of its disks over crashes.
-use Rattle.std.proofs.Common.{◌≡◌, inl, inr, refl, sym, subst, List, [], ◌∷◌}
+use Rattle.std.proofs.Common.{arith, ◌≡◌, inl, inr, sym, subst, List, [], ◌∷◌}
 use Rattle.model_graph.specs.Walk.{Among}
-use Rattle.law_stations.specs.{LoneStations.LoneCommand, LoneStations.LoneStation, LoneStations.PostAlone, LoneStations.PurgeAlone, LoneStations.ScanAlone, LoneStations.TossAny, Nets.Paired, Nets.first_net, AloneInOrder.IsInOrderAlone, AloneInOrder.ShowsStill, AloneOverCrashes.AloneIsInOrderOverCrashes, AloneOverCrashes.AloneStaysOverCrashes, LoneDisks.lone_disks_at_first, LoneDisks.on_net}
+use Rattle.law_stations.specs.{LoneStations.LoneCommand, LoneStations.LoneStation, LoneStations.PurgeAlone, Nets.Paired, Nets.first_net, AloneInOrder.IsInOrderAlone, AloneInOrder.ShowsStill, AloneOverCrashes.AloneIsInOrderOverCrashes, AloneOverCrashes.AloneStaysOverCrashes, LoneDisks.lone_disks_at_first, LoneDisks.on_net}
 use Rattle.law_stations.proofs.{Stays.alone-in-order, Stays.alone-stays, EachCommand.first-tracks, EachCommand.has-net, Grown.all-grow, Crashes.IsLikeAlone, Crashes.followed-all-alone}
 
 like-purge : (command : LoneCommand) → IsLikeAlone command PurgeAlone → command ≡ PurgeAlone
-like-purge (PostAlone words body) like = cc
-like-purge (ScanAlone stamp) like = cc
-like-purge PurgeAlone like = refl
-like-purge (TossAny files) (others, like) = cc
+like-purge command like = grind arith
 
 purged-too : (commands plain : List LoneCommand) → Paired IsLikeAlone commands plain → Among PurgeAlone plain → Among PurgeAlone commands
 purged-too [] [] like h = h
