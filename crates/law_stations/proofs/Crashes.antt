@@ -1,12 +1,13 @@
 -- For any stops of one station's commands, its disks agree with a net without stops inside a command.
-use Rattle.std.proofs.Common.{◌≡◌, inl, inr, refl, sym, subst, ap, ◌∙◌, ℕ, append-nil, List, [], ◌∷◌, length, map, take, arith}
+use Rattle.std.proofs.Common.{◌≡◌, inl, inr, refl, sym, subst, ap, ◌∙◌, ℕ, zero, suc, append-nil, List, [], ◌∷◌, length, map, take, arith}
 use Rattle.model_graph.specs.Walk.{Among}
+use Rattle.model_steps.specs.SystemState.{SystemState}
 use Rattle.echo_toss.specs.PacketsIn.{state_in}
 use Rattle.model_run.specs.Run.{change}
-use Rattle.cmd_store.specs.Coming.{Coming}
+use Rattle.cmd_store.specs.Coming.{Coming, Fails, Holds, Unknown}
 use Rattle.law_stations.specs.{Commands.Command, Commands.CommandEvent, Commands.Happens, Commands.Post, Commands.Purge, Commands.Scan, Disks.cursor_of, OverCrashes.IsLike, Stopping.PartialEffect, Nets.Net, Nets.Paired, Nets.Station, Nets.with_base, Nets.with_left, LoneDisks.LoneDisks, LoneDisks.MayHappenAlone, LoneDisks.MayHappenAllAlone, LoneDisks.on_net, LoneDisks.under_names}
-use Rattle.law_stations.specs.LoneStations.{HappenAlone, HappensAlone, LoneCommand, LoneStation, NothingCame, PostAlone, PurgeAlone, ScanAlone, TossAny, TossesAny}
-use Rattle.law_stations.proofs.{FileRuns.tossed-all, FileRuns.wholes, EachCommand.followed, Others.tossed-cursor, Tracking.Tracks, Tracking.still}
+use Rattle.law_stations.specs.LoneStations.{AreAnyFiles, HappenAlone, HappensAlone, LoneCommand, LoneStation, NothingCame, PostAlone, PurgeAlone, ScanAlone, TossAny, TossesAny}
+use Rattle.law_stations.proofs.{FileRuns.IsPartly, FileRuns.TossedFiles, FileRuns.tossed-all, FileRuns.wholes, EachCommand.followed, Tracking.Tracks, Tracking.still}
 
 -- a toss may have only the first of its files
 abbrev pub IsLikeAlone : LoneCommand → LoneCommand → Type 0
@@ -43,6 +44,17 @@ by-event command of s new net t leads none only so =
       happens = so f.then (subst P same f.happens) (λ e. inl (λ j. record { net = e j; came = none.0 j; whole = none.1 j }));
       tracks = f.tracks;
     }
+
+partly-cursor : (files : List Coming) (old new : SystemState) → AreAnyFiles files → IsPartly files old new → new.cursor ≡ old.cursor
+partly-cursor files old new h1 h2 = grind arith
+
+tossed-cursor : (n : ℕ) (files : List Coming) (old new : SystemState) → AreAnyFiles files → TossedFiles n files old new → new.cursor ≡ old.cursor
+tossed-cursor zero files old new any partly = partly-cursor files old new any partly
+tossed-cursor (suc n) [] old new any tossed = absurd tossed
+tossed-cursor (suc n) (Holds bytes ∷ files) old new any (mid, whole, more) =
+    tossed-cursor n files mid new any more ∙ ap (λ (s : SystemState). s.cursor) whole.tossed_front.state
+tossed-cursor (suc n) (Fails path ∷ files) old new any tossed = absurd tossed.1
+tossed-cursor (suc n) (Unknown ∷ files) old new any tossed = absurd any
 
 any-toss : (files : List Coming) (s new : LoneDisks) (net : Net) → Tracks s.disks net → TossesAny files (under_names s) (under_names new) → new.disks.staging ≡ s.disks.staging
     → (next : Net) × TossesAny files (on_net s net) (on_net new next) × Tracks new.disks next

@@ -5,7 +5,7 @@ use Rattle.model_graph.{specs.Walk.Among, proofs.Floods.Among-push_cases}
 use Rattle.law_stations.specs.{Nets.Net, CanEnd.CanEnd, Disks.StagingFile, Disks.HasCursor, Disks.naming, Stopping.EndsOne, Stopping.HasNoneStaged}
 use Rattle.law_stations.proofs.Whole.{disks_with}
 
-cursor-stays : (net : Net) (i cursor : ℕ) (bytes : List ℕ) (named : Bool) → HasCursor net i cursor → HasCursor (naming net bytes named) i cursor
+pub cursor-stays : (net : Net) (i cursor : ℕ) (bytes : List ℕ) (named : Bool) → HasCursor net i cursor → HasCursor (naming net bytes named) i cursor
 cursor-stays net i cursor bytes named has = grind arith
 
 -- one file of the station, after others, is finished

@@ -10,7 +10,7 @@ use Rattle.echo_toss.specs.PacketsIn.{state_in}
 use Rattle.model_run.{specs.Run.{change, nth, with_index}, proofs.Lists.{with_index-from, with_index-new, with_index-old}}
 use Rattle.cmd_store.specs.{declared.drafting.NewMessage.NewMessage, Coming.Coming, Coming.Fails, Coming.Holds, Coming.Unknown, Drafts.draft_given}
 use Rattle.law_stations.specs.Commands.{Command, IsAt, IsPacketAt, Leads, Post, Posts, Purge, Purges, Toss, Tosses, whole_of}
-use Rattle.law_stations.specs.{Nets.Net, Nets.Paired, Nets.Station, Nets.with_base, Nets.with_indexes, Nets.with_left, Nets.with_posting, Nets.with_tossed, Disks.Disks, Disks.cursor_of, LoneStations.AreAnyFiles}
+use Rattle.law_stations.specs.{Nets.Net, Nets.Paired, Nets.Station, Nets.with_base, Nets.with_indexes, Nets.with_left, Nets.with_posting, Nets.with_tossed, Disks.Disks, Disks.cursor_of}
 use Rattle.law_stations.proofs.{FileRuns.IsPartly, FileRuns.TossedFiles, FileRuns.tossed-all, FileRuns.wholes, OfToss.whole-first, Pairs.change-map, Pairs.paired-nth, Counting.IsItem, Tracking.IsTossedAt, Tracking.Tracks, Tracking.still}
 
 same-cursors : (i : ℕ) (station : Station) (next : Base) (stations : List Station) → nth i stations ≡ Some station → next.cursor ≡ station.base.cursor
@@ -84,24 +84,24 @@ files-at packets named places (j ∷ indexes) [] paired are = absurd are
 files-at packets named places (j ∷ indexes) (file ∷ files) paired are =
     (file-at packets named places j file paired are.0, files-at packets named places indexes files paired are.1)
 
-partly-cursor : (files : List Coming) (old new : SystemState) → AreAnyFiles files → IsPartly files old new → new.cursor ≡ old.cursor
-partly-cursor files old new h1 h2 = grind arith
+partly-cursor : (packets : List (List ℕ)) (indexes : List ℕ) (files : List Coming) (old new : SystemState) → Paired (IsPacketAt packets) indexes files → IsPartly files old new
+    → new.cursor ≡ old.cursor
+partly-cursor packets indexes [] old new are same = ap (λ (s : SystemState). s.cursor) same
+partly-cursor packets indexes (Holds bytes ∷ files) old new are (inl same) = ap (λ (s : SystemState). s.cursor) same
+partly-cursor packets indexes (Holds bytes ∷ files) old new are (inr front) = ap (λ (s : SystemState). s.cursor) front.state
+partly-cursor packets indexes (Fails path ∷ files) old new are same = ap (λ (s : SystemState). s.cursor) same
+partly-cursor packets [] (Unknown ∷ files) old new are partly = absurd are
+partly-cursor packets (k ∷ indexes) (Unknown ∷ files) old new are partly = absurd are.0
 
-pub tossed-cursor : (n : ℕ) (files : List Coming) (old new : SystemState) → AreAnyFiles files → TossedFiles n files old new → new.cursor ≡ old.cursor
-tossed-cursor zero files old new any partly = partly-cursor files old new any partly
-tossed-cursor (suc n) [] old new any tossed = absurd tossed
-tossed-cursor (suc n) (Holds bytes ∷ files) old new any (mid, whole, more) =
-    tossed-cursor n files mid new any more ∙ ap (λ (s : SystemState). s.cursor) whole.tossed_front.state
-tossed-cursor (suc n) (Fails path ∷ files) old new any tossed = absurd tossed.1
-tossed-cursor (suc n) (Unknown ∷ files) old new any tossed = absurd any
-
-are-any : (packets : List (List ℕ)) (indexes : List ℕ) (files : List Coming) → Paired (IsPacketAt packets) indexes files → AreAnyFiles files
-are-any packets [] [] are = tt
-are-any packets (k ∷ indexes) [] are = absurd are
-are-any packets [] (file ∷ files) are = absurd are
-are-any packets (k ∷ indexes) (Holds bytes ∷ files) are = are-any packets indexes files are.1
-are-any packets (k ∷ indexes) (Fails path ∷ files) are = are-any packets indexes files are.1
-are-any packets (k ∷ indexes) (Unknown ∷ files) are = absurd are.0
+tossed-cursor : (n : ℕ) (packets : List (List ℕ)) (indexes : List ℕ) (files : List Coming) (old new : SystemState) → Paired (IsPacketAt packets) indexes files → TossedFiles n files old new
+    → new.cursor ≡ old.cursor
+tossed-cursor zero packets indexes files old new are tossed = partly-cursor packets indexes files old new are tossed
+tossed-cursor (suc n) packets indexes [] old new are tossed = absurd tossed
+tossed-cursor (suc n) packets [] (file ∷ files) old new are tossed = absurd are
+tossed-cursor (suc n) packets (k ∷ indexes) (Holds bytes ∷ files) old new are (mid, whole, more) =
+    tossed-cursor n packets indexes files mid new are.1 more ∙ ap (λ (s : SystemState). s.cursor) whole.tossed_front.state
+tossed-cursor (suc n) packets (k ∷ indexes) (Fails path ∷ files) old new are tossed = absurd tossed.1
+tossed-cursor (suc n) packets (k ∷ indexes) (Unknown ∷ files) old new are tossed = absurd are.0
 
 tossed-there : (n : ℕ) (packets : List (List ℕ)) (indexes : List ℕ) (files : List Coming) (old new : SystemState) → Paired (IsPacketAt packets) indexes files → TossedFiles n files old new
     → (j : ℕ) → Among j (take n indexes) → (bytes : List ℕ) × (nth j packets ≡ Some bytes)
@@ -169,7 +169,7 @@ tossed-too indexes i d new net t p staging =
         leads = record { station = p.station; file = p.file; at = at; files = p.files; are = are; next = p.next; tosses = all; becomes = refl };
         tracks = still d new net next t (ap (λ (n : Net). n.stations) p.becomes ∙ ap (change i (with_base p.next)) t.stations)
             (ap (λ (n : Net). n.postings) p.becomes ∙ t.postings) (ap (λ (n : Net). n.packets) p.becomes) refl staging
-            (same-cursors i p.station p.next net.stations at.there (tossed-cursor n p.files (state_in p.file p.station.base) (state_in p.file p.next) (are-any net.packets others p.files are) ran))
+            (same-cursors i p.station p.next net.stations at.there (tossed-cursor n net.packets others p.files (state_in p.file p.station.base) (state_in p.file p.next) are ran))
             (subst (λ (n : Net). (j : ℕ) → Among j n.delivered → IsTossedAt t.places next.delivered j) (sym p.becomes) tossed);
       },
     )

@@ -1,5 +1,5 @@
 -- Files under packets' names while the packets of earlier scans get theirs.
-use Rattle.std.proofs.Common.{◌≡◌, ◌≢◌, ◌⊎◌, inl, inr, ⊎_elim, ◌∙◌, ◌<◌, ◌≤◌, ◌+◌, refl, sym, subst, ap, ℕ, zero, suc, false, true≢false, List, [], ◌∷◌, ◌++◌, append-nil, append_assoc, arith, codes, get_or, length, length-append, Some, None}
+use Rattle.std.proofs.Common.{◌≡◌, ◌≢◌, ◌⊎◌, inl, inr, ⊎_elim, ◌∙◌, ◌<◌, ◌≤◌, ◌+◌, refl, sym, subst, ap, ℕ, zero, suc, Bool, true, false, true≢false, List, [], ◌∷◌, ◌++◌, append-nil, append_assoc, arith, codes, get_or, length, length-append, Some, None}
 use Rattle.std.proofs.lemmas.{Bool.{cases_Bool, cases_lt}, List.{append_cancel_left, get_or-append-add}}
 use Rattle.std.proofs.lemmas.List.Elements.{All-cons, All-contains, All-nil, Contains-append_right, Contains-get_or}
 use Rattle.std.specs.{Prelude.All, Prelude.Contains, Prelude.bytes_eq, Cmp.Lexicographic.bytes_decides}
@@ -11,7 +11,7 @@ use Rattle.model_steps.specs.PacketFiles.{PacketFile}
 use Rattle.station_scan.specs.{Left.{IsEnded, IsLeftOf}, Scanning.{CommitsScan, PreparesScan}}
 use Rattle.station_scan.specs.{Publishing.IsOnDisk, Sending.IsFreeAt, Sending.IsStagingOfPacket, Sends.IsOfThese}
 use Rattle.law_stations.specs.{Disks.Disks, Disks.HasCursor, Disks.StagingFile, Disks.naming, Nets.Net, PacketNames.AreOfNet, PacketNames.IsPacketName, PacketNames.IsToName, PacketNames.ShowsPackets, Stopping.EndsOne, Stopping.EndsSome, Stopping.HasNoneStaged}
-use Rattle.law_stations.proofs.{Elsewhere.one-stations, Grown.some-grow, Tracking.cursor-too}
+use Rattle.law_stations.proofs.Ended.{cursor-stays}
 
 -- ---- paths
 
@@ -50,10 +50,21 @@ one-has f m (x ∷ xs) = elim (same-or-not m (f x)) [
 
 -- ---- the net
 
+kept-one : (net : Net) (bytes more : List ℕ) (named : Bool) → Among bytes net.packets → Among bytes (naming net more named).packets
+kept-one net bytes more true is = is
+kept-one net bytes more false is = Among-append_left bytes net.packets (more ∷ []) is
+
+ends-keep-one : (i : ℕ) (d next : Disks) (bytes : List ℕ) → EndsOne i d next → Among bytes d.net.packets → Among bytes next.net.packets
+ends-keep-one i d next bytes e is =
+    let P : Net → Type 0 = λ n. Among bytes n.packets in
+    elim e.ends [
+      | inl named ↦ subst P (sym named.1) (kept-one d.net bytes e.file.bytes e.file.named is)
+      | inr gone ↦ subst P (sym gone.1) is
+    ]
+
 ends-keep : (n i : ℕ) (d ended : Disks) (bytes : List ℕ) → EndsSome n i d ended → Among bytes d.net.packets → Among bytes ended.net.packets
-ends-keep n i d ended bytes ends is =
-    let (since, grown) = some-grow n i d ended ends in
-    subst (λ (ps : List (List ℕ)). Among bytes ps) (sym grown) (Among-append_left bytes d.net.packets since is)
+ends-keep zero i d ended bytes same is = subst (λ (x : Disks). Among bytes x.net.packets) (sym same) is
+ends-keep (suc n) i d ended bytes (next, first, later) is = ends-keep n i next ended bytes later (ends-keep-one i d next bytes first is)
 
 -- where the file that waits is in the list
 still-waits : (i cursor : ℕ) (d next : Disks) (bytes : List ℕ) (e : EndsOne i d next) → (w : IsToName i cursor d bytes) → Among w.file e.before ⊎ Among w.file e.after → IsToName i cursor next bytes
@@ -93,12 +104,20 @@ named-or-waits i cursor d next bytes e has w =
       ]
     ]
 
+next-cursor : (i cursor : ℕ) (d next : Disks) → EndsOne i d next → HasCursor d.net i cursor → HasCursor next.net i cursor
+next-cursor i cursor d next e has =
+    let P : Net → Type 0 = λ n. HasCursor n i cursor in
+    elim e.ends [
+      | inl named ↦ subst P (sym named.1) (cursor-stays d.net i cursor e.file.bytes e.file.named has)
+      | inr gone ↦ subst P (sym gone.1) has
+    ]
+
 -- once all are finished, what waited is a packet of the net
 all-named-now : (n i cursor : ℕ) (d ended : Disks) (bytes : List ℕ) → EndsSome n i d ended → HasNoneStaged i ended.staging → HasCursor d.net i cursor → IsToName i cursor d bytes → Among bytes ended.net.packets
 all-named-now zero i cursor d ended bytes same none has w = absurd (none w.file (subst (λ (x : Disks). Among w.file x.staging) (sym same) w.among) w.own)
 all-named-now (suc n) i cursor d ended bytes (next, first, later) none has w = elim (named-or-waits i cursor d next bytes first has w) [
   | inl now ↦ ends-keep n i next ended bytes later now
-  | inr still ↦ all-named-now n i cursor next ended bytes later none (cursor-too d.net next.net i cursor (sym (one-stations i d next first)) has) still
+  | inr still ↦ all-named-now n i cursor next ended bytes later none (next-cursor i cursor d next first has) still
 ]
 
 -- ---- the folder

@@ -1,6 +1,6 @@
 -- Rounds of repair on the disks of a net of stations are rounds of the model.
 use Rattle.std.proofs.Common.{◌≡◌, ◌≢◌, inl, inr, refl, sym, subst, ap, ◌∙◌, ℕ, zero, suc, ◌≤◌, arith, List, [], ◌∷◌, ◌++◌, length, map, Option, Some}
-use Rattle.std.{proofs.lemmas.List.{length-append, length-map}, specs.{Prelude.{IsTrue, filter}, List.AllByRecursion}}
+use Rattle.std.{proofs.lemmas.List.{length-append, length-map, map-append}, specs.{Prelude.{IsTrue, filter}, List.AllByRecursion}}
 use Rattle.echo_addr.specs.{declared.address.Address.Address, Address.IsAddress}
 use Rattle.model_graph.specs.Walk.{Among, Different}
 use Rattle.echo_packet.specs.Header.{AreBytes}
@@ -61,22 +61,19 @@ after-besides : (events : List RunEvent) (run : Run) → after_repairs run (map 
 after-besides [] run = refl
 after-besides (event ∷ later) run = after-besides later (after_repair run (Besides event))
 
-abbrev IsCalm : RunEvent → Type 0
-IsCalm e = IsNoPurge (Besides e)
+abbrev Calm : List RunEvent → Type 0
+Calm events = AllByRecursion IsNoPurge (map (λ e. Besides e) events)
 
-calm-besides : (events : List RunEvent) → AllByRecursion IsCalm events → AllByRecursion IsNoPurge (map (λ e. Besides e) events)
-calm-besides [] calm = tt
-calm-besides (event ∷ later) calm = (calm.0, calm-besides later calm.1)
-
-toss-calm : (k : ℕ) (events : List RunEvent) → IsTossOf k events → AllByRecursion IsCalm events
+toss-calm : (k : ℕ) (events : List RunEvent) → IsTossOf k events → Calm events
 toss-calm k events is = grind arith
 
-tosses-calm : (indexes : List ℕ) (events : List RunEvent) → AreTossesOf indexes events → AllByRecursion IsCalm events
-tosses-calm [] events e = subst (AllByRecursion IsCalm) (sym e) tt
+tosses-calm : (indexes : List ℕ) (events : List RunEvent) → AreTossesOf indexes events → Calm events
+tosses-calm [] events e = subst Calm (sym e) tt
 tosses-calm (k ∷ later) events (front, rest, e, is, are) =
-    subst (AllByRecursion IsCalm) (sym e) (all_append IsCalm front rest (toss-calm k front is) (tosses-calm later rest are))
+    let all = all_append IsNoPurge (map (λ x. Besides x) front) (map (λ x. Besides x) rest) (toss-calm k front is) (tosses-calm later rest are) in
+    subst Calm (sym e) (subst (AllByRecursion IsNoPurge) (sym (map-append (λ (x : RunEvent). Besides x) front rest)) all)
 
-command-calm : (command : Command) (i : ℕ) (events : List RunEvent) → command ≢ Purge → AreEventsOf command i events → AllByRecursion IsCalm events
+command-calm : (command : Command) (i : ℕ) (events : List RunEvent) → command ≢ Purge → AreEventsOf command i events → Calm events
 command-calm command i events other are = grind (arith, tosses-calm)
 
 -- one more packet file has its name, in the net too
@@ -153,10 +150,7 @@ led-one (Calls event) d new run r calm happens =
     let none : f.plain.command ≢ Purge = λ e. calm (like-purge event.command (subst (IsLike event.command) e f.like.command)) in
     record {
       events = map (λ e. Besides e) events;
-      calm = calm-besides events (elim are [
-        | inl idle ↦ subst (AllByRecursion IsCalm) (sym idle) tt
-        | inr some ↦ command-calm f.plain.command f.plain.station events none some
-      ]);
+      calm = elim are [ inl idle ↦ subst Calm (sym idle) tt | inr some ↦ command-calm f.plain.command f.plain.station events none some ];
       runs = subst (Runs new) (sym (after-besides events run)) (record { net = f.then; tracks = f.tracks; agrees = then; apart = addresses-stay events run r.apart });
     }
 

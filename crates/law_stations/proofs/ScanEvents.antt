@@ -1,11 +1,11 @@
 -- A scan on a station as a command event.
-use Rattle.std.proofs.Common.{◌≡◌, ◌⊎◌, inl, inr, ⊎_elim, ◌∙◌, ◌<◌, refl, sym, subst, ap, ℕ, append-nil, arith, List, [], ◌++◌, length, map, Some, Result, Ok, Err}
+use Rattle.std.proofs.Common.{◌≡◌, ◌⊎◌, inl, inr, ⊎_elim, ◌∙◌, ◌<◌, refl, sym, subst, ap, ℕ, zero, suc, append-nil, arith, List, [], ◌∷◌, ◌++◌, length, map, Some, Result, Ok, Err}
 use Rattle.std.{proofs.lemmas.List.Elements.{All-contains, recursion_from_All}, specs.{Prelude.{All, IfErr, OnOk}, List.AllByRecursion}}
 use Rattle.base_file.specs.Base.{Base}
 use Rattle.disk_io.specs.{Disk.DiskState, Disk.Files, Runs.LeavesOnly}
 use Rattle.echo_links.specs.{Links.LinkFile, LinkLines.LinksOf}
 use Rattle.disk_atomic.specs.{Finishing.IsOfLeft, declared.finishing.Left.Left, StagingPaths.dotted, StagingPaths.staging_path}
-use Rattle.model_run.{specs.Run.nth, proofs.{HarmLists.nth-changed as changed-there, Targets.{some_same}}}
+use Rattle.model_run.{specs.Run.nth, proofs.{HarmLists.nth-changed as changed-there, Targets.{some_same, none_some}}}
 use Rattle.cmd_status.specs.{declared.fault.Fault.Fault, Devices.Output}
 use Rattle.model_steps.specs.{PacketFiles.PacketFile, declared.stamp.Stamp.Stamp}
 use Rattle.base_store.specs.Store.{all_scanned}
@@ -14,8 +14,8 @@ use Rattle.echo_toss.specs.PacketsIn.{state_in}
 use Rattle.station.specs.{Place.KeepsElsewhere, Place.Place, Place.RepresentsOrWasLeft, Running.IsNotRun, Running.IsStopped}
 use Rattle.station_scan.specs.Scanning.{AreSentOut, CommitsScan, IsOnItsWay, IsPreparing, IsPutAs, IsPutIn, IsTaken, IsTouched, MayLeave, ScansIn, StopsScanIn, ReportsStop, packets_in}
 use Rattle.station_scan.specs.{Left.IsLeftOf, Publishing.IsOnDisk, Publishing.UnchangedExcept, Sending.IsFreeAt, Sending.HasBytes, Sending.IsStagingOfPacket, Sending.IsOfPacket, Sending.IsWhole, Sends.IsOfThese, Stops.IsOfPlacing, Stops.as_scan, Stops.most, declared.scan_error.ScanError.ScanError, declared.scan_error.ScanError.TheVariants.Command, declared.scan_error.ScanError.TheVariants.Staying}
-use Rattle.law_stations.specs.{Scans.AreAfterScan, Scans.IsBeforeCommit, Scans.KeepsPackets, PacketNames.AreOfNet, PacketNames.IsListed, PacketNames.ShowsPackets, Scans.IsAfterScan, Scans.IsAtPath, Scans.IsStagingPath, Scans.ScansAsEvent, Scans.ScansAsMay, Scans.with_packets_in, Nets.bytes_of, Nets.with_base, Nets.with_left, Disks.Disks, Disks.HasCursor, Stopping.EndsSome, Stopping.HasNoneStaged, Stopping.Moves, Stopping.staging_of, OnDisks.IsLinkedOn, OnDisks.IsStationAt, OnDisks.ReadsLinks, OnDisks.ShowsStation}
-use Rattle.law_stations.proofs.{PacketNames.as-seen, PacketNames.before-commit, PacketNames.while-preparing, Systems.one-file, Elsewhere.some-stations, Moving.some-waits, Parted.Parted, Parted.all-named, Parted.parted, Tracking.has-cursor as cursor-at, Whole.disks_with, Whole.with_packets}
+use Rattle.law_stations.specs.{Scans.AreAfterScan, Scans.IsBeforeCommit, Scans.KeepsPackets, PacketNames.AreOfNet, PacketNames.IsListed, PacketNames.ShowsPackets, Scans.IsAfterScan, Scans.IsAtPath, Scans.IsStagingPath, Scans.ScansAsEvent, Scans.ScansAsMay, Scans.with_packets_in, Nets.Station, Nets.bytes_of, Nets.with_base, Nets.with_left, Disks.Disks, Disks.HasCursor, Disks.cursor_of, Stopping.EndsSome, Stopping.HasNoneStaged, Stopping.Moves, Stopping.staging_of, OnDisks.IsLinkedOn, OnDisks.IsStationAt, OnDisks.ReadsLinks, OnDisks.ShowsStation}
+use Rattle.law_stations.proofs.{PacketNames.as-seen, PacketNames.before-commit, PacketNames.while-preparing, Systems.one-file, Elsewhere.some-stations, Moving.some-waits, Parted.Parted, Parted.all-named, Parted.parted, Whole.disks_with, Whole.with_packets}
 
 left-away : (is_true : Type 0) (Own : List ℕ → Type 0) (outbound own : List ℕ) (found : List Left) → All (IsLeftOf is_true Own outbound own) found → (m : List ℕ) → (IsTouched Own outbound m → ⊥) → IsOfLeft found m → ⊥
 left-away is_true Own outbound own found each m away (l, has, is) = by (All-contains (IsLeftOf is_true Own outbound own) found l each has) is
@@ -45,6 +45,11 @@ IsFailed (Err why) = Unit {0}
 
 not-both : (result : Result (Unit {0}) ScanError) (why : ScanError) → result ≡ Err why → result ≡ Ok tt → ⊥
 not-both result why is ok = subst IsFailed ok (subst IsFailed (sym is) tt)
+
+cursor-at : (stations : List Station) (i : ℕ) (station : Station) → nth i stations ≡ Some station → nth i (map cursor_of stations) ≡ Some station.base.cursor
+cursor-at [] i station there = absurd (none_some there)
+cursor-at (s ∷ stations) zero station there = ap (λ (t : Station). Some t.base.cursor) (some_same there)
+cursor-at (s ∷ stations) (suc i) station there = cursor-at stations i station there
 
 module _ (stamp : Stamp) (place : Place) (links outbound : List ℕ) (IsTrue : Files → Type 0) (i : ℕ) (d : Disks) (n : ℕ) (ended : Disks) (old new : DiskState) (at : IsStationAt place links i old d)
     (kept : UnchangedExcept (IsTouched place.is_own outbound) old new) (away : IsTouched place.is_own outbound links → ⊥) (ends : EndsSome n i d ended) (none : HasNoneStaged i ended.staging) where
@@ -96,7 +101,7 @@ module _ (stamp : Stamp) (place : Place) (links outbound : List ℕ) (IsTrue : F
     OfNet c = AreOfNet place.is_own outbound (dotted file.system) c ended
 
     has-cursor : HasCursor d.net i base.cursor
-    has-cursor = cursor-at d.net i at.shows.station at.shows.there
+    has-cursor = cursor-at d.net.stations i at.shows.station at.shows.there
 
     net-opened : (c : Files) → RepresentsOrWasLeft place old base c → OfNet c
     net-opened c opens = as-seen place.is_own outbound (dotted file.system) n i base.cursor d ended ends none has-cursor old shown c (λ name is. opened-same c opens (outbound ++ name) is.off.path (shown.path name is))
@@ -158,13 +163,13 @@ module _ (stamp : Stamp) (place : Place) (links outbound : List ℕ) (IsTrue : F
     now-there = changed-there i (with_base next) at.shows.station ended.net.stations there
 
     now-has : HasCursor moved.net i (length base.messages)
-    now-has = cursor-at moved.net i (with_base next at.shows.station) now-there
+    now-has = cursor-at moved.net.stations i (with_base next at.shows.station) now-there
 
     moves : All HasBytes files → Moves stamp i ended moved
     moves bytes = record {
       none = none;
       cursor = base.cursor;
-      is_cursor = cursor-at ended.net i at.shows.station there;
+      is_cursor = cursor-at ended.net.stations i at.shows.station there;
       scanned = with_left ended.net i files next;
       scans = record {
         station = at.shows.station;

@@ -5,24 +5,20 @@ use Rattle.model_graph.specs.Walk.{Among, Different}
 use Rattle.echo_links.specs.Links.{LinkFile, same_address}
 use Rattle.echo_filed.specs.{declared.key.Key.Key, Filed.Filed}
 use Rattle.model_steps.specs.declared.packet.Packet.{Packet}
-use Rattle.model_run.{specs.{Orderly.{copies, count, sent_count}, Run.{destination, nth}}, proofs.{Lists.nth-among, HarmLists.nth-map}}
+use Rattle.model_run.{specs.{Orderly.{copies, count, sent_count}, Run.{destination, nth}}, proofs.{Lists.nth-among, HarmLists.{among-nth, nth-map}}}
 use Rattle.law_stations.specs.{Commands.Command, Commands.CommandEvent, Commands.Purge, OverCrashes.HasNet, OverCrashes.IsLike, OverCrashes.IsLikeEvent, OverCrashes.SoundOverCrashes, Nets.Net, Nets.Paired, Nets.Station, Nets.first_net, Disks.Disks, Disks.first_disks, InOrder.IsSound, InOrder.IsUnchanged, InOrder.ReadsAs, InOrder.StationHolds, InOrder.WasPurged}
-use Rattle.law_stations.proofs.{Headline.reads-once, Pairs.paired-among, Pairs.paired-nth, Sound.nets-are-sound, Counting.IsItem, Counting.picked-total, Counting.total, EachCommand.crashes-from, EachCommand.first-tracks}
+use Rattle.law_stations.proofs.{Headline.reads-once, Pairs.paired-among, Pairs.paired-back, Pairs.paired-nth, Sound.nets-are-sound, Counting.IsItem, Counting.picked-total, Counting.total, EachCommand.crashes-from, EachCommand.first-tracks}
 
 pub like-purge : (command : Command) → IsLike command Purge → command ≡ Purge
 like-purge command like = grind arith
 
 purged-too : (commands plain : List CommandEvent) (i : ℕ) → Paired IsLikeEvent commands plain → WasPurged plain i → WasPurged commands i
-purged-too [] [] i like h = h
-purged-too [] (p ∷ plain) i like h = absurd like
-purged-too (c ∷ commands) [] i like h = absurd h
-purged-too (c ∷ commands) (p ∷ plain) i like h = elim h [
-  | inl e ↦ (
-      let station : c.station ≡ i = sym like.0.station ∙ ap (λ (x : CommandEvent). x.station) (sym e) in
-      let command : c.command ≡ Purge = like-purge c.command (subst (IsLike c.command) (ap (λ (x : CommandEvent). x.command) (sym e)) like.0.command) in
-      inl (λ k. record { station = sym station k; command = sym command k }))
-  | inr t ↦ inr (purged-too commands plain i like.1 t)
-]
+purged-too commands plain i like h =
+    let purge : CommandEvent = record { station = i; command = Purge } in
+    let (k, at) = among-nth purge plain h in
+    let (c, there, is) = paired-back IsLikeEvent k purge commands plain like at in
+    let P : CommandEvent → Type 0 = λ x. Among x commands in
+    subst P (λ j. record { station = sym is.station j; command = like-purge c.command is.command j }) (nth-among k c commands there)
 
 pub unchanged-too : (commands plain : List CommandEvent) (i : ℕ) (messages : List Filed) (cursor : ℕ) (m posting : Filed) → Paired IsLikeEvent commands plain
     → IsUnchanged plain i messages cursor m posting → IsUnchanged commands i messages cursor m posting
