@@ -1,5 +1,5 @@
 -- The contents of one station without crashes are those of its disks over crashes.
-use Rattle.std.proofs.Common.{arith, ◌≡◌, inl, inr, sym, subst, List, [], ◌∷◌}
+use Rattle.std.proofs.Common.{arith, ◌≡◌, inl, inr, subst, List, [], ◌∷◌}
 use Rattle.model_graph.specs.Walk.{Among}
 use Rattle.model_run.proofs.{HarmLists.among-nth, Lists.nth-among}
 use Rattle.law_stations.specs.{LoneStations.LoneCommand, LoneStations.LoneStation, LoneStations.PurgeAlone, Nets.Paired, Nets.first_net, AloneInOrder.IsInOrderAlone, AloneInOrder.ShowsStill, AloneOverCrashes.AloneIsInOrderOverCrashes, AloneOverCrashes.AloneStaysOverCrashes, LoneDisks.lone_disks_at_first, LoneDisks.on_net}
