@@ -1,6 +1,6 @@
 -- A new message is in order over crashes, from any disks on.
 use Rattle.std.proofs.Common.{◌≡◌, inl, inr, refl, sym, subst, ap, ◌∙◌, ℕ, zero, suc, ◌+◌, ◌≤◌, ◌<◌, arith, List, [], ◌∷◌, ◌++◌, filter, length, map, Option, Some, None}
-use Rattle.std.proofs.lemmas.{Bool.cond-false, Bool.cond-true, Bool.ltb-false, Bool.ltb-true, List.length-append, List.length-map}
+use Rattle.std.proofs.lemmas.{Bool.cond-false, Bool.cond-true, Bool.ltb-false, Bool.ltb-true, Bool.not-true, List.length-append, List.length-map}
 use Rattle.std.specs.Prelude.{Bool, true, false, not, if◌then◌else◌}
 use Rattle.cmd_status.specs.Inputs.{AreLinkFiles}
 use Rattle.model_graph.specs.{Walk.Among, Cycle.Polygons}
@@ -9,7 +9,7 @@ use Rattle.echo_filed.specs.{declared.key.Key.Key, Filed.Filed}
 use Rattle.model_steps.specs.declared.packet.Packet.{Packet}
 use Rattle.model_run.specs.{Orderly.sent_count, Orderly.tag_of, Run.nth, Tidy.Joined, Tidy.lists}
 use Rattle.model_run.proofs.{Lists.and-from, Lists.and-parts, Lists.filter-no, Lists.filter-yes, Lists.not_both, Lists.nth-append, Lists.yes_or_no, HarmLists.among-nth, HarmLists.nth-map, Targets.none_some, Targets.some_same}
-use Rattle.law_stations.specs.AnyDisks.{HeadlineFromAnyDisks, KeyHasSettled, KeyInOrderOverCrashes, KeyIsNotLostOverCrashes, NoneIsLostFromAnyDisks, all_packets, disks_at, is_below, waits_for_name}
+use Rattle.law_stations.specs.AnyDisks.{HeadlineFromAnyDisks, KeyHasSettled, KeyInOrderOverCrashes, all_packets, disks_at, is_below, waits_for_name}
 use Rattle.law_stations.specs.{AnyNets.IsNewTo, AnyNets.IsSomeNet, AnyNets.KeyInOrder, AnyNets.KeyIsNotLost, AnyNets.KeyIsSettled, AnyNets.links_at, AnyNets.net_at, Commands.CommandEvent, Disks.Disks, Disks.StagingFile, Disks.cursors, InOrder.ReadsAs, InOrder.StationHolds, Nets.Net, Nets.Paired, Nets.Station, OverCrashes.HasNet, OverCrashes.IsLikeEvent, Stopping.MayHappenAll}
 use Rattle.law_stations.proofs.{Counting.IsItem, Counting.below, Counting.below-step, Counting.times, Counting.waits, AnyNets.in-order as key-in-order, AnyNets.not-lost as key-not-lost, AnyNets.packets-read, EachCommand.crashes-from, Headline.checked, Pairs.paired-back, Shown.holds-too, Shown.sent-less, Shown.unchanged-too, Tracking.IsTagged, Tracking.Tracks}
 
@@ -72,9 +72,6 @@ not-below : (n : ℕ) (o : Option ℕ) → is_below n o ≡ false → (c : ℕ) 
 not-below n None f c e = absurd (none_some e)
 not-below n (Some d) f c e = (let same : d ≡ c = some_same e in let P : ℕ → Type 0 = λ x. x ≤ n in subst P same (ltb-false n d f))
 
-not-true : (b : Bool) → not b ≡ true → b ≡ false
-not-true b h = grind arith
-
 tagged-so : (files : List (List ℕ)) (at : List ℕ) (n : ℕ) (staging : List StagingFile) →
     ((j k : ℕ) (file : StagingFile) → k ≡ n + j → nth j (filter (waits_for_name at) staging) ≡ Some file → nth k files ≡ Some file.bytes) →
     Paired (IsTagged files at) staging (tags (waits_for_name at) n staging)
@@ -103,7 +100,7 @@ tagged-so files at n (file ∷ staging) h = elim (yes_or_no (waits_for_name at f
       ))
 ]
 
-tracks : (stations : List Station) (packets : List (List ℕ)) (staging : List StagingFile) →
+pub tracks : (stations : List Station) (packets : List (List ℕ)) (staging : List StagingFile) →
     Tracks (disks_at stations packets staging) (net_at stations (all_packets stations packets staging))
 tracks stations packets staging =
     let at = cursors (net_at stations packets) in
@@ -130,7 +127,7 @@ tracks stations packets staging =
     }
 
 module _ (commands plain : List CommandEvent) (d : Disks) (net : Net) (like : Paired IsLikeEvent commands plain) (has : HasNet d net) (tag : List ℕ) (key : Key)
-    (lost : KeyIsNotLost plain net tag key) (read_all : (ps : List Packet) × Paired ReadsAs net.packets ps) where
+    (lost : KeyIsNotLost (KeyIsSettled net key) plain net tag key) (read_all : (ps : List Packet) × Paired ReadsAs net.packets ps) where
   held : (i : ℕ) (file : LinkFile) (messages : List Filed) (cursor : ℕ) → StationHolds d.net i file messages cursor → StationHolds net i file messages cursor
   held i file messages cursor = holds-too d.net net i file messages cursor has.stations
 
@@ -155,7 +152,7 @@ module _ (commands plain : List CommandEvent) (d : Disks) (net : Net) (like : Pa
   less : (a : _) (qs : List Packet) → Paired ReadsAs d.net.packets qs → sent_count a key qs ≤ sent_count a key read_all.0
   less a qs read = sent-less a key net.packets d.net.packets has.places read_all.0 qs has.named has.once read_all.1 read
 
-  pub not-lost : KeyIsNotLostOverCrashes commands d tag key
+  pub not-lost : KeyIsNotLost (KeyHasSettled d key) commands d.net tag key
   not-lost = record {
     filed_once = λ i file messages cursor holds. lost.filed_once i file messages cursor (held i file messages cursor holds);
     no_others = λ qs read i file messages cursor holds without.
@@ -167,15 +164,13 @@ module _ (commands plain : List CommandEvent) (d : Disks) (net : Net) (like : Pa
         record { once = unchanged.once; same = λ m h q. unchanged-too commands plain i messages cursor m posting like (unchanged.same m h q) };
   }
 
-  pub in-order : KeyInOrder plain net tag key → KeyInOrderOverCrashes commands d tag key
+  pub in-order : KeyInOrder (KeyIsSettled net key) plain net tag key → KeyInOrderOverCrashes commands d tag key
   in-order order = record {
-    filed_once = not-lost.filed_once;
+    not_lost = not-lost;
     sent_once = λ qs read i file messages cursor holds.
         omega (arith, order.sent_once read_all.0 read_all.1 i file messages cursor (held i file messages cursor holds), less file.system qs read);
     never_own = λ qs read i file messages cursor holds m in_it own e.
         omega (arith, order.never_own read_all.0 read_all.1 i file messages cursor (held i file messages cursor holds) m in_it own e, less file.system qs read);
-    no_others = not-lost.no_others;
-    all_came = not-lost.all_came;
   }
 
 -- a net without crashes, and its promise
@@ -186,7 +181,7 @@ module _ (stations : List Station) (packets : List (List ℕ)) (staging : List S
   abbrev all : List (List ℕ)
   all = all_packets stations packets staging
 
-  pub none-lost : KeyIsNotLostOverCrashes commands d tag key
+  pub none-lost : KeyIsNotLost (KeyHasSettled d key) commands d.net tag key
   none-lost =
       let (plain, net, like, plainly, has) = crashes-from commands (disks_at stations packets staging) d (net_at stations all) (tracks stations packets staging) happen in
       not-lost commands plain d net like has tag key (key-not-lost stations all some files are joined.one_file plain net plainly tag joined key of_area is_new)
@@ -198,10 +193,6 @@ module _ (stations : List Station) (packets : List (List ℕ)) (staging : List S
       in-order commands plain d net like has tag key (key-not-lost stations all some files are joined.one_file plain net plainly tag joined key of_area is_new)
       (packets-read stations all some files are joined.one_file plain net plainly)
       (key-in-order stations all some files are joined.one_file plain net plainly tag joined key of_area is_new cycles)
-
-pub none-is-lost-from-any-disks : NoneIsLostFromAnyDisks
-none-is-lost-from-any-disks stations packets staging files tag are joined some key of_area is_new commands d happen =
-    none-lost stations packets staging files are tag joined some key of_area is_new commands d happen
 
 pub headline-from-any-disks : HeadlineFromAnyDisks
 headline-from-any-disks nodelist more tag stations packets staging stopped old new good some key of_area is_new commands d happen =

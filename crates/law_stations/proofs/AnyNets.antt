@@ -1,17 +1,17 @@
 -- A new message of a checked area is in order, from any state of a net of stations on.
-use Rattle.std.proofs.Common.{◌≡◌, inl, inr, refl, sym, subst, ap, ◌∙◌, ℕ, ◌≤◌, List, [], ◌∷◌, length, map, Option, Some, None, arith}
-use Rattle.std.specs.{Prelude.IsTrue, Prelude.true, Prelude.is_none, List.AllByRecursion}
+use Rattle.std.proofs.Common.{◌≡◌, ◌⊎◌, inl, inr, refl, sym, subst, ap, ◌∙◌, ℕ, ◌≤◌, List, [], ◌∷◌, length, map, Some}
+use Rattle.std.specs.{Prelude.IsTrue, Prelude.is_none}
 use Rattle.cmd_status.specs.{Inputs.AreLinkFiles}
 use Rattle.model_graph.specs.{Walk.Among, Walk.Different, Cycle.Polygons}
-use Rattle.echo_packet.specs.Message.{HasNoZero, IsMessage, Message}
+use Rattle.echo_packet.specs.Message.{IsMessage}
 use Rattle.echo_links.specs.Links.{LinkFile, has_area, upper}
-use Rattle.echo_filed.specs.{declared.key.Key.Key, Filed.Filed, Filed.key_of}
+use Rattle.echo_filed.specs.{declared.key.Key.Key, Filed.Filed}
 use Rattle.base_file.specs.Base.{Base, IsBase}
 use Rattle.model_steps.specs.declared.packet.Packet.{Packet}
-use Rattle.model_run.specs.{Orderly.FiledUnchanged, Orderly.SameContent, Orderly.count, Orderly.sent_count, Orderly.tag_of, AnyState.HasSettled, AnyState.IsNew, AnyState.IsNotLost, AnyState.IsOrderly, Run.Run, Run.System, Run.after_events, Run.nth, States.IsState, Tidy.Joined, Tidy.Tidy, Tidy.lists}
-use Rattle.model_run.proofs.{Lists.nth-among, Lists.Among-filter_from, Lists.Among-filter_to, Lists.Among-flat_map_from, Lists.Among-flat_map_to, AnyState.new-not_lost, AnyState.new-orderly, HarmLists.among-nth, States.any-state, States.later-state, TosserLaws.the_laws}
-use Rattle.law_stations.specs.{AnyNets.HeadlineFromAnyState, AnyNets.IsNewTo, AnyNets.IsSomeNet, AnyNets.KeyInOrder, AnyNets.KeyIsNotLost, AnyNets.KeyIsSettled, AnyNets.links_at, AnyNets.net_at, AnyNets.own_of, Agreement.Agrees, Agreement.HasSystem, Agreement.IsPacketFile, Agreement.file_address, Commands.CommandEvent, Commands.Happen, InOrder.HasUnchanged, InOrder.IsUnchanged, InOrder.ReadsAs, Nets.Net, Nets.Paired, Nets.Station}
-use Rattle.law_stations.proofs.{EachEvent.LedAll, EachEvent.led-all, Headline.all-read, Headline.checked, Moving.nth-middle, Pairs.paired-among, Pairs.paired-back, Places.addresses-of, Sound.reads, Sound.represented, Systems.file-fits, Systems.says-so, Unpurged.kept-where}
+use Rattle.model_run.specs.{Orderly.FiledUnchanged, Orderly.count, Orderly.sent_count, Orderly.tag_of, AnyState.HasSettled, AnyState.IsNew, AnyState.IsNotLost, AnyState.IsOrderly, Run.Run, Run.System, Run.after_events, Run.nth, States.IsState, Tidy.Joined, Tidy.Tidy, Tidy.lists}
+use Rattle.model_run.proofs.{Lists.nth-among, Lists.Among-filter_from, Lists.Among-filter_to, Lists.Among-flat_map_from, Lists.Among-flat_map_to, AnyState.new-not_lost, AnyState.new-orderly, HarmLists.among-nth, HarmLists.nth-middle, States.any-state, States.each-of, States.later-state, Targets.is-none, TosserLaws.the_laws}
+use Rattle.law_stations.specs.{AnyNets.HeadlineFromAnyState, AnyNets.IsNewTo, AnyNets.IsSomeNet, AnyNets.KeyInOrder, AnyNets.KeyIsNotLost, AnyNets.KeyIsSettled, AnyNets.links_at, AnyNets.net_at, AnyNets.own_of, Agreement.Agrees, Agreement.HasSystem, Agreement.IsPacketFile, Agreement.file_address, Commands.CommandEvent, Commands.Happen, InOrder.HasUnchanged, InOrder.ReadsAs, InOrder.WasPurged, Nets.Net, Nets.Paired, Nets.Station}
+use Rattle.law_stations.proofs.{EachEvent.LedAll, EachEvent.led-all, Headline.all-read, Headline.checked, Pairs.paired-among, Pairs.paired-back, Places.addresses-of, Sound.is-unchanged, Sound.reads, Sound.represented, Systems.file-fits, Systems.says-so, Tracking.paired-so, Unpurged.IsAsFiled}
 
 -- a system of each station; what its base has counts as filed
 abbrev system_of : LinkFile → Station → System
@@ -44,14 +44,6 @@ systems-filed (station ∷ stations) (file ∷ files) s h = elim h [
   | inr t ↦ systems-filed stations files s t
 ]
 
-packed-plain : (limit : ℕ) (ms : List Message) → AllByRecursion (IsMessage limit) ms → (q : Message) → Among q ms → HasNoZero q.text
-packed-plain limit [] all q i = absurd i
-packed-plain limit (m ∷ ms) all q i =
-    elim i [
-      | inl e ↦ (let P : Message → Type 0 = λ x. HasNoZero x.text in subst P (sym e) all.0.text.no_zero)
-      | inr t ↦ packed-plain limit ms all.1 q t
-    ]
-
 module _ (stations : List Station) (packets : List (List ℕ)) (some : IsSomeNet stations packets) (files : List LinkFile) (are : AreLinkFiles (links_at stations) files) where
   abbrev pub first : Run
   first = record { systems = systems_of files stations; packets = some.read_as; delivered = [] }
@@ -70,12 +62,6 @@ module _ (stations : List Station) (packets : List (List ℕ)) (some : IsSomeNet
       let (i, at) = among-nth p some.read_as h in
       let (bytes, there, is) = paired-back IsPacketFile i p packets some.read_as some.files at in
       (bytes, nth-among i bytes packets there, is)
-
-  none-is : {X : Type 0} (o : Option X) → o ≡ None → is_none o ≡ true
-  none-is o e = ap is_none e
-
-  is-none : {X : Type 0} (o : Option X) → is_none o ≡ true → o ≡ None
-  is-none o e = grind arith
 
   pub begins : Agrees (net_at stations packets) first
   begins = record {
@@ -99,7 +85,7 @@ module _ (stations : List Station) (packets : List (List ℕ)) (some : IsSomeNet
         let P : List Filed → Type 0 = λ ms. Among m ms in
         let in_base = subst P (systems-filed stations files s at ∙ ap (λ (b : Base). b.messages) (sym has.base)) posting.filed in
         Among-flat_map_to own_of m station stations there
-        (Among-filter_to (λ n. is_none n.sender) m station.base.messages in_base (none-is m.sender posting.own));
+        (Among-filter_to (λ n. is_none n.sender) m station.base.messages in_base (ap is_none posting.own));
   }
 
   pub state : IsState first
@@ -107,7 +93,7 @@ module _ (stations : List Station) (packets : List (List ℕ)) (some : IsSomeNet
       (λ s h. (let (station, there, has) = station-of s h in file-fits station.links s.file has.links))
       (λ s h. (let (station, there, has) = station-of s h in has.is_base))
       (systems-filed stations files)
-      (λ p h. (let (bytes, there, is) = bytes-of p h in packed-plain _ p.messages is.packet.messages.each))
+      (λ p h. (let (bytes, there, is) = bytes-of p h in λ q i. (each-of (IsMessage _) p.messages is.packet.messages.each q i).text.no_zero))
       refl
 
   new : (key : Key) → IsNewTo stations packets key → IsNew first key
@@ -129,24 +115,8 @@ module _ (stations : List Station) (packets : List (List ℕ)) (some : IsSomeNet
     stays : IsState run
     stays = later-state the_laws led.events first state
 
-    is-unchanged : (i : ℕ) (s : System) → nth i run.systems ≡ Some s → (m : Filed) → Among m s.base →
-        (filed : Filed) × Among filed s.history × (key_of m ≡ key_of filed)
-        × ((posting : Filed) → SameContent filed posting → IsUnchanged commands i s.base s.cursor m posting)
-    is-unchanged i s at m h = elim (led.as_filed i) [
-      | inl purged ↦ (
-          let (filed, was, kept, form) = kept-where s.cursor s.base s.history (stays.0.systems s (nth-among i s run.systems at)).kept m h in (
-            filed,
-            was,
-            kept.key,
-            λ posting same. elim form [
-              | inl as_filed ↦ (let P : Filed → Type 0 = λ x. SameContent x posting in inl (subst P (sym as_filed) same))
-              | inr left ↦ inr (record { purged = purged; scanned_before = left.0; filed = filed; stub = left.1; same = same })
-            ],
-          ))
-      | inr keeps ↦ (
-          let P : List Filed → Type 0 = λ ms. Among m ms in
-          (m, subst P (keeps (λ t there. sym (systems-filed stations files t (nth-among i t first.systems there))) s at) h, refl, λ posting same. inl same))
-    ]
+    pub packets-read : (ps : List Packet) × Paired ReadsAs net.packets ps
+    packets-read = (run.packets, paired-so IsPacketFile ReadsAs net.packets run.packets (λ bytes p h is. reads bytes p is) led.agrees.packets)
 
     module _ (tag : List ℕ) (joined : Joined files tag) (key : Key) (of_area : tag_of key ≡ tag) (is_new : IsNewTo stations packets key) where
       lost : IsNotLost run tag key
@@ -161,7 +131,7 @@ module _ (stations : List Station) (packets : List (List ℕ)) (some : IsSomeNet
             let (station, found, has) = paired-back HasSystem i s net.stations run.systems led.agrees.stations at in
             is.scanned i s.file s.base s.cursor (record { station = station; there = found; says = says-so station s has }) m waits;
         delivered = λ before packet after whole m in_it e.
-            let at : nth (length before) run.packets ≡ Some packet = ap (nth (length before)) whole ∙ nth-middle before packet after in
+            let at : nth (length before) run.packets ≡ Some packet = ap (nth (length before)) whole ∙ nth-middle packet before after in
             let (bytes, there, packed) = paired-back IsPacketFile (length before) packet net.packets run.packets led.agrees.packets at in
             let D : List ℕ → Type 0 = λ ds. Among (length before) ds in
             subst D led.agrees.delivered (is.tossed (length before) bytes packet there (reads bytes packet packed) m in_it e);
@@ -171,11 +141,15 @@ module _ (stations : List Station) (packets : List (List ℕ)) (some : IsSomeNet
       unchanged i s at posting is = record {
         once = is.once;
         same = λ m h e.
-            let (filed, was, same_key, kept) = is-unchanged i s at m h in
+            let as_filed : WasPurged commands i ⊎ IsAsFiled s = elim (led.as_filed i) [
+              | inl purged ↦ inl purged
+              | inr keeps ↦ inr (keeps (λ t there. sym (systems-filed stations files t (nth-among i t first.systems there))) s at)
+            ] in
+            let (filed, was, same_key, kept) = is-unchanged commands i s (stays.0.systems s (nth-among i s run.systems at)).kept as_filed m h in
             kept posting (is.unchanged filed was (sym same_key ∙ e));
       }
 
-      pub not-lost : KeyIsNotLost commands net tag key
+      pub not-lost : KeyIsNotLost (KeyIsSettled net key) commands net tag key
       not-lost = record {
         filed_once = λ i file messages cursor holds.
             let at = represented net run led.agrees i file messages cursor holds in
@@ -192,9 +166,9 @@ module _ (stations : List Station) (packets : List (List ℕ)) (some : IsSomeNet
             (lost.all_came (settled is) f at_f posting posted.filed posted.own e at.s at.among has_tag)) has;
       }
 
-      pub in-order : Polygons (lists files tag) → KeyInOrder commands net tag key
+      pub in-order : Polygons (lists files tag) → KeyInOrder (KeyIsSettled net key) commands net tag key
       in-order cycles = record {
-        filed_once = not-lost.filed_once;
+        not_lost = not-lost;
         sent_once = λ read paired i file messages cursor holds.
             let at = represented net run led.agrees i file messages cursor holds in
             let P : List Packet → Type 0 = λ ps. sent_count file.system key ps ≤ 1 in
@@ -205,8 +179,6 @@ module _ (stations : List Station) (packets : List (List ℕ)) (some : IsSomeNet
             let P : List Packet → Type 0 = λ ps. sent_count file.system key ps ≡ 0 in
             subst P (sym (all-read net.packets run.packets read led.agrees.packets paired))
             (at.same (λ f ms c. Among m ms → sent_count f.system key run.packets ≡ 0) (λ there. orderly.never_own at.s at.among m there own e) in_it);
-        no_others = not-lost.no_others;
-        all_came = not-lost.all_came;
       }
         where
           orderly : IsOrderly run tag key
@@ -219,17 +191,3 @@ pub headline-from-any-state : HeadlineFromAnyState
 headline-from-any-state nodelist more tag stations packets stopped old new good some key of_area is_new commands net happen =
     let (files, are, tidy) = checked nodelist more tag (links_at stations) stopped old new good in
     in-order stations packets some files are tidy.joined.one_file commands net happen (upper tag) tidy.joined key of_area is_new tidy.cycles
-
-pub packets-read : (stations : List Station) (packets : List (List ℕ)) → IsSomeNet stations packets → (files : List LinkFile) → AreLinkFiles (links_at stations) files
-    → Different (map file_address files) → (commands : List CommandEvent) (net : Net) → Happen commands (net_at stations packets) net → (ps : List Packet) × Paired ReadsAs net.packets ps
-packets-read stations packets some files are apart commands net happen =
-    ps-of net (run stations packets some files are apart commands net happen) (led stations packets some files are apart commands net happen).agrees
-  where
-    each : (files : List (List ℕ)) (ps : List Packet) → Paired IsPacketFile files ps → Paired ReadsAs files ps
-    each [] [] is = tt
-    each [] (p ∷ ps) is = absurd is
-    each (bytes ∷ files) [] is = absurd is
-    each (bytes ∷ files) (p ∷ ps) is = (reads bytes p is.0, each files ps is.1)
-
-    ps-of : (net : Net) (r : Run) → Agrees net r → (ps : List Packet) × Paired ReadsAs net.packets ps
-    ps-of net r agrees = (r.packets, each net.packets r.packets agrees.packets)

@@ -4,7 +4,7 @@ use Rattle.model_graph.specs.Walk.{Among}
 use Rattle.model_steps.specs.declared.stamp.Stamp.{Stamp}
 use Rattle.model_run.{specs.Run.nth, proofs.Targets.some_same}
 use Rattle.law_stations.specs.Commands.{Command, CommandEvent, Happen, Happens, Leads, Post, Purge, Scan, Toss}
-use Rattle.law_stations.specs.{OverCrashes.CrashesAreNone, OverCrashes.HasNet, OverCrashes.IsLike, OverCrashes.IsLikeEvent, OverCrashes.IsToBeNamed, Nets.Net, Nets.Paired, Nets.first_net, Disks.StagingFile, Disks.Disks, Disks.cursors, Disks.first_disks, Stopping.EndsSome, Stopping.PartialEffect, Stopping.MayHappen, Stopping.MayHappenAll, Stopping.Moves, Stopping.ScansFar, Stopping.Writes}
+use Rattle.law_stations.specs.{OverCrashes.HasNet, OverCrashes.IsLike, OverCrashes.IsLikeEvent, OverCrashes.IsToBeNamed, Nets.Net, Nets.Paired, Nets.first_net, Disks.StagingFile, Disks.Disks, Disks.cursors, Disks.first_disks, Stopping.EndsSome, Stopping.PartialEffect, Stopping.MayHappen, Stopping.MayHappenAll, Stopping.Moves, Stopping.ScansFar, Stopping.Writes}
 use Rattle.law_stations.proofs.{Counting.among-times, Counting.below-most, Counting.below-there, Counting.same-is, Counting.same_as, Counting.times, Counting.times-different, Counting.waits, Ending.some-ended, Moving.moved, Moving.scans, Moving.then, Moving.written, Others.Led, Others.posted-too, Others.purged-too, Others.tossed-too, Tracking.IsTagged, Tracking.Tracks, Tracking.cursor-too}
 
 itself-like : (command : Command) → IsLike command command
@@ -150,6 +150,3 @@ pub crashes-from : (commands : List CommandEvent) (first d : Disks) (net : Net) 
 crashes-from commands first d net t happen =
     let f = followed-all commands first d net t happen in
     (f.plain, f.then, f.like, f.happen, has-net d f.then f.tracks)
-
-pub crashes-are-none : CrashesAreNone
-crashes-are-none links commands d happen = crashes-from commands (first_disks links) d (first_net links) (first-tracks links) happen

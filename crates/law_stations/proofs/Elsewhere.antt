@@ -1,5 +1,5 @@
 -- A command changes only the base of its station.
-use Rattle.std.proofs.Common.{◌≡◌, ◌≢◌, inl, inr, refl, ap, ◌∙◌, ℕ, zero, suc, Bool, true, false, List, [], ◌∷◌, arith}
+use Rattle.std.proofs.Common.{◌≡◌, ◌≢◌, inl, inr, refl, ap, ◌∙◌, ℕ, zero, suc, Bool, List, [], ◌∷◌, arith}
 use Rattle.base_file.specs.Base.{Base}
 use Rattle.model_steps.specs.declared.stamp.Stamp.{Stamp}
 use Rattle.model_run.specs.Run.{change, nth}
@@ -14,8 +14,7 @@ change-other f (suc i) zero (x ∷ xs) other = refl
 change-other f (suc i) (suc j) (x ∷ xs) other = change-other f i j xs (λ e. other (ap suc e))
 
 naming-stations : (net : Net) (bytes : List ℕ) (b : Bool) → (naming net bytes b).stations ≡ net.stations
-naming-stations net bytes true = refl
-naming-stations net bytes false = refl
+naming-stations net bytes b = grind arith
 
 pub one-stations : (i : ℕ) (d new : Disks) → EndsOne i d new → new.net.stations ≡ d.net.stations
 one-stations i d new e = grind (arith, naming-stations)

@@ -1,13 +1,12 @@
 -- The staging files of a station are finished, one after another.
-use Rattle.std.proofs.Common.{◌≡◌, ◌≢◌, inl, inr, ⊎_elim, ◌∙◌, ℕ, zero, suc, ◌<◌, ◌≤◌, Bool, true, false, List, [], ◌∷◌, ◌++◌, append-nil, append_assoc, refl, sym, subst, ap}
+use Rattle.std.proofs.Common.{arith, ◌≡◌, ◌≢◌, inl, inr, ⊎_elim, ◌∙◌, ℕ, zero, suc, ◌<◌, ◌≤◌, Bool, List, [], ◌∷◌, ◌++◌, append-nil, append_assoc, refl, sym, subst, ap}
 use Rattle.std.proofs.lemmas.Bool.{cases_eq, cases_lt}
 use Rattle.model_graph.{specs.Walk.Among, proofs.Floods.Among-push_cases}
-use Rattle.law_stations.specs.{Nets.Net, CanEnd.CanEnd, CanEnd.LeftCanEnd, Disks.StagingFile, Disks.HasCursor, Disks.naming, Stopping.EndsOne, Stopping.HasNoneStaged}
+use Rattle.law_stations.specs.{Nets.Net, CanEnd.CanEnd, Disks.StagingFile, Disks.HasCursor, Disks.naming, Stopping.EndsOne, Stopping.HasNoneStaged}
 use Rattle.law_stations.proofs.Whole.{disks_with}
 
 pub cursor-stays : (net : Net) (i cursor : ℕ) (bytes : List ℕ) (named : Bool) → HasCursor net i cursor → HasCursor (naming net bytes named) i cursor
-cursor-stays net i cursor bytes true has = has
-cursor-stays net i cursor bytes false has = has
+cursor-stays net i cursor bytes named has = grind arith
 
 -- one file of the station, after others, is finished
 record OneEnds (i cursor : ℕ) (net : Net) (before : List StagingFile) (file : StagingFile) (after : List StagingFile) : Type 0 where
@@ -33,7 +32,7 @@ none-more : (i : ℕ) (before : List StagingFile) (file : StagingFile) → HasNo
 none-more i before file none other f is =
     ⊎_elim (λ (was : Among f before). none f was) (λ (same : f ≡ file) e. other (ap (λ (b : StagingFile). b.station) (sym same) ∙ e)) (Among-push_cases f file before is)
 
-can-end : (i cursor : ℕ) (after before : List StagingFile) (net : Net) → HasNoneStaged i before → HasCursor net i cursor → CanEnd i (disks_with net (before ++ after))
+pub can-end : (i cursor : ℕ) (after before : List StagingFile) (net : Net) → HasNoneStaged i before → HasCursor net i cursor → CanEnd i (disks_with net (before ++ after))
 can-end i cursor [] before net none has = record {
   steps = zero;
   ended = disks_with net (before ++ []);
@@ -49,6 +48,3 @@ can-end i cursor (file ∷ rest) before net none has = ⊎_elim
     let later = can-end i cursor rest (before ++ file ∷ []) net (none-more i before file none other) has in
     subst (λ (l : List StagingFile). CanEnd i (disks_with net l)) (append_assoc before (file ∷ []) rest) later)
     (cases_eq file.station i)
-
-pub left-can-end : LeftCanEnd
-left-can-end i d cursor has = can-end i cursor d.staging [] d.net (λ file is. absurd is) has

@@ -5,13 +5,13 @@ use Rattle.law_stations.specs.{Commands.Command, Commands.Post, Commands.Purge, 
 use Rattle.law_stations.specs.Stopping.{EndsOne, EndsSome, PartialEffect, Moves, ScansFar, Writes}
 
 -- the packet files stay, and later ones follow
-abbrev Grows : List (List ℕ) → List (List ℕ) → Type 0
+abbrev pub Grows : List (List ℕ) → List (List ℕ) → Type 0
 Grows old new = (since : List (List ℕ)) × (new ≡ old ++ since)
 
-same-grows : (old new : List (List ℕ)) → new ≡ old → Grows old new
+pub same-grows : (old new : List (List ℕ)) → new ≡ old → Grows old new
 same-grows old new same = ([], same ∙ sym (append-nil old))
 
-grows-on : (old mid new : List (List ℕ)) → Grows old mid → Grows mid new → Grows old new
+pub grows-on : (old mid new : List (List ℕ)) → Grows old mid → Grows mid new → Grows old new
 grows-on old mid new (first, is) (later, after) = (first ++ later, after ∙ ap (λ (ps : List (List ℕ)). ps ++ later) is ∙ append_assoc old first later)
 
 naming-grows : (net : Net) (bytes : List ℕ) (b : Bool) → Grows net.packets (naming net bytes b).packets
@@ -21,7 +21,7 @@ naming-grows net bytes false = (bytes ∷ [], refl)
 one-grows : (i : ℕ) (d new : Disks) → EndsOne i d new → Grows d.net.packets new.net.packets
 one-grows i d new e = grind (arith, naming-grows, same-grows)
 
-some-grow : (n i : ℕ) (d new : Disks) → EndsSome n i d new → Grows d.net.packets new.net.packets
+pub some-grow : (n i : ℕ) (d new : Disks) → EndsSome n i d new → Grows d.net.packets new.net.packets
 some-grow zero i d new same = same-grows d.net.packets new.net.packets (ap (λ (x : Disks). x.net.packets) same)
 some-grow (suc n) i d new (next, first, later) =
     grows-on d.net.packets next.net.packets new.net.packets (one-grows i d next first) (some-grow n i next new later)
@@ -36,7 +36,7 @@ scan-grows stamp i d new (n, ended, ends, rest) = grows-on d.net.packets ended.n
         grows-on ended.net.packets moved.net.packets new.net.packets
         ([], ap (λ (x : Disks). x.net.packets) moves.becomes) (some-grow m i moved new names)
 
-led-grows : (command : Command) (i : ℕ) (d new : Disks) → PartialEffect command d i new → Grows d.net.packets new.net.packets
+pub led-grows : (command : Command) (i : ℕ) (d new : Disks) → PartialEffect command d i new → Grows d.net.packets new.net.packets
 led-grows (Post words body) i d new (posts, staging) = same-grows d.net.packets new.net.packets (ap (λ (n : Net). n.packets) posts.becomes)
 led-grows (Scan stamp) i d new scan = scan-grows stamp i d new scan
 led-grows Purge i d new (purges, staging) = ([], ap (λ (n : Net). n.packets) purges.becomes)

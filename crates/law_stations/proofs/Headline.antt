@@ -7,9 +7,9 @@ use Rattle.model_run.specs.Tidy.{Tidy}
 use Rattle.cmd_check.specs.Checking.{CheckAnswers}
 use Rattle.law_stations.{specs.{Agreement.{IsPacketFile, limits_of}, InOrder.ReadsAs, Nets.Paired}, proofs.Readings.one-packet}
 
-pub read-once : (bytes : List ℕ) (p q : Packet) → IsPacketFile bytes p → ReadsAs bytes q → q ≡ p
-read-once bytes p q is (limits, other) =
-    let one = one-packet (limits_of bytes) limits p.header q.header p.messages q.messages bytes bytes [] is.packet other (sym (append-nil bytes)) in
+pub reads-once : (bytes : List ℕ) (p q : Packet) → ReadsAs bytes p → ReadsAs bytes q → q ≡ p
+reads-once bytes p q (a, is) (b, other) =
+    let one = one-packet a b p.header q.header p.messages q.messages bytes bytes [] is other (sym (append-nil bytes)) in
     λ i. record { header = one.0 i; messages = one.1 i }
 
 pub all-read : (files : List (List ℕ)) (ps qs : List Packet) → Paired IsPacketFile files ps → Paired ReadsAs files qs → qs ≡ ps
@@ -19,7 +19,7 @@ all-read [] (p ∷ ps) qs is other = absurd is
 all-read (bytes ∷ files) [] qs is other = absurd is
 all-read (bytes ∷ files) (p ∷ ps) [] is other = absurd other
 all-read (bytes ∷ files) (p ∷ ps) (q ∷ qs) is other =
-    let first = read-once bytes p q is.0 other.0 in
+    let first = reads-once bytes p q (limits_of bytes, is.0.packet) other.0 in
     let later = all-read files ps qs is.1 other.1 in
     λ i. first i ∷ later i
 

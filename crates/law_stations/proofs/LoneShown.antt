@@ -1,5 +1,5 @@
 -- The contents of one station, from the history of its system and its sent packets.
-use Rattle.std.{proofs.Common.{◌≡◌, ◌⊎◌, inl, inr, refl, sym, subst, ap, ◌∙◌, ℕ, zero, suc, ◌≤◌, arith, List, [], ◌∷◌, take, drop}, specs.Prelude.false}
+use Rattle.std.{proofs.Common.{◌≡◌, ◌⊎◌, inl, inr, refl, sym, subst, ap, ◌∙◌, ℕ, ◌≤◌, arith, List, [], ◌∷◌, take, drop}, specs.Prelude.false}
 use Rattle.echo_addr.specs.declared.address.Address.{Address}
 use Rattle.model_graph.{specs.Walk.Among, proofs.Members.Among-append_right}
 use Rattle.echo_packet.specs.{declared.header.Header.Header, Message.Message}
@@ -10,7 +10,7 @@ use Rattle.base_file.specs.Base.{IsBase}
 use Rattle.model_steps.specs.{declared.packet.Packet.Packet, Tossing.received, Tossing.sender_of}
 use Rattle.model_run.specs.{Lone.LoneEvent, Lone.LoneSystem, Lone.PostHere, Lone.PurgeHere, Lone.ScanHere, Lone.TossHere, Lone.lone_at_first, Lone.lone_run, Exports.IsSentCopy, Orderly.copies, Orderly.count, Orderly.sent_count, Run.System, Run.destination, Owed.IsFiledBy, Owed.IsFromLink, Owed.IsOwed}
 use Rattle.model_run.proofs.TosserPremises as counts
-use Rattle.model_run.proofs.{Bases.IsKept, Bases.Kept, Bases.Kept-back, Bases.Kept-count, Bases.Kept-waiting, Bases.SystemOk, Bases.count-is, Lists.Among-take, Lists.not_both, TosserLaws.the_laws, Filings.run-from, Filings.run-file, Filings.run-left}
+use Rattle.model_run.proofs.{Bases.IsKept, Bases.Kept-back, Bases.Kept-count, Bases.Kept-front, Bases.Kept-waiting, Bases.SystemOk, Bases.count-is, Lists.Among-take, Lists.not_both, TosserLaws.the_laws, Filings.run-from, Filings.run-file, Filings.run-left}
 use Rattle.model_run.proofs.SentSoFar.{IsSentSoFar, copy-owed, owed-back, owed-there, run-sent, sent-once, sent-others, sent-owed, sent-waiting, base-once, run-due, run-ok}
 use Rattle.law_stations.specs.{AloneInOrder.LoneSays, AloneInOrder.HasCome, AloneInOrder.HoldsPacket, AloneInOrder.IsInOrderAlone, AloneInOrder.IsLeftAlone, Agreement.HasSystem, Agreement.IsPacketFile, InOrder.ReadsAs, Nets.Paired, Nets.Station, LoneStations.LoneCommand, LoneStations.LoneStation}
 use Rattle.law_stations.proofs.{Headline.all-read, OfEvents.posted-own, Pairs.paired-among, Readings.one-in_front, Sound.reads, Systems.said-once, Systems.says-so, Purgings.left-scanned, Purgings.purge-among, Alone.IsLone, Steps.AreOfCommands}
@@ -18,16 +18,6 @@ use Rattle.law_stations.proofs.{Headline.all-read, OfEvents.posted-own, Pairs.pa
 stub-owed : (file : LinkFile) (h : Filed) (a : Address) → IsOwed file h a → IsOwed file (stub_of h) a
 unfolding stub_of
 stub-owed file h a owed = grind arith
-
-kept-take : (c : ℕ) (base history : List Filed) → Kept c base history → (m : Filed) → Among m (take c base) → (h : Filed) × Among h (take c history) × IsKept m h
-kept-take zero base history k m i = absurd i
-kept-take (suc c) [] history k m i = absurd k
-kept-take (suc c) (b ∷ base) [] k m i = absurd k
-kept-take (suc c) (b ∷ base) (h ∷ history) k m i =
-    elim i [
-      | inl e ↦ (let P : Filed → Type 0 = λ x. IsKept x h in (h, inl refl, subst P (sym e) k.0))
-      | inr t ↦ (let (n, j, kept) = kept-take c base history k.1 m t in (n, inr j, kept))
-    ]
 
 -- the contents of the station are those of its system
 pub record Stood (z : LoneSystem) (file : LinkFile) (f : LinkFile) (messages : List Filed) (cursor : ℕ) : Type 1 where
@@ -156,7 +146,7 @@ module _ (commands : List LoneCommand) (file : LinkFile) (fits : IsFile file) (s
 
   owed-sent : (m : Filed) → Among m (take z.system.cursor z.system.base) → is_stub m ≡ false → (a : Address) → IsOwed file m a →
       sent_count a (key_of m) z.sent ≡ 1
-  owed-sent m i not_stub a owed = grind (arith, kept-take, ok, not_both, stub_reported, stub_of_stub, sent-owed, the_laws, sofar, owed-there)
+  owed-sent m i not_stub a owed = grind (arith, Kept-front, ok, not_both, stub_reported, stub_of_stub, sent-owed, the_laws, sofar, owed-there)
 
   pub in-order : IsInOrderAlone commands s
   in-order = record {

@@ -6,7 +6,7 @@ use Rattle.model_graph.specs.Walk.{Among}
 use Rattle.echo_links.specs.Links.{LinkFile}
 use Rattle.echo_filed.specs.{Filed.Filed, Sets.address_set}
 use Rattle.model_steps.specs.{declared.stamp.Stamp.Stamp, PacketFiles.PacketFile, Scanning.packets_of, Scanning.recipients, Scanning.scanned}
-use Rattle.model_run.{specs.Run.{change, nth}, proofs.{Lists.nth-append, HarmLists.nth-changed as changed-there, Targets.some_same}}
+use Rattle.model_run.{specs.Run.{change, nth}, proofs.{Lists.nth-append, HarmLists.nth-changed as changed-there, HarmLists.nth-middle, Targets.some_same}}
 use Rattle.base_store.specs.Store.{all_scanned}
 use Rattle.cmd_store.specs.PacketLines.{file_sent}
 use Rattle.law_stations.specs.{Nets.Net, Nets.Paired, Nets.Station, Nets.bytes_of, Nets.with_base, Nets.with_left, Disks.StagingFile, Disks.Disks, Disks.HasCursor, Disks.cursor_of, Disks.cursors, Commands.Scans, Stopping.IsOfNext, Stopping.Moves, Stopping.Writes, Stopping.staging_of}
@@ -37,10 +37,6 @@ written i d new net t w = subst (λ (x : Disks). Tracks x net) (sym w.becomes) (
   tossed = t.tossed;
 })
 
-pub nth-middle : {X : Type 0} (before : List X) (x : X) (after : List X) → nth (length before) (before ++ x ∷ after) ≡ Some x
-nth-middle [] x after = refl
-nth-middle (y ∷ before) x after = nth-middle before x after
-
 waiting-tagged : (front : List (List ℕ)) (at : List ℕ) (i c : ℕ) (ps : List PacketFile) → ((q : PacketFile) → Among q ps → (n : ℕ) × (nth i at ≡ Some n) × (c < n))
     → Paired (IsTagged (front ++ map bytes_of ps) at) (map (staging_of i c) ps) (from (length front) ps)
 waiting-tagged front at i c [] less = tt
@@ -49,7 +45,7 @@ waiting-tagged front at i c (p ∷ ps) less =
     let long : length (front ++ p.bytes ∷ []) ≡ suc (length front) = let e = length-append front (p.bytes ∷ []) in omega (arith, e) in
     let P : List (List ℕ) → Type 0 = λ all. Paired (IsTagged all at) (map (staging_of i c) ps) (from (suc (length front)) ps) in
     let Q : ℕ → Type 0 = λ n. Paired (IsTagged ((front ++ p.bytes ∷ []) ++ map bytes_of ps) at) (map (staging_of i c) ps) (from n ps) in
-    ((nth-middle front p.bytes (map bytes_of ps), refl, less p (inl refl)), subst P (append_assoc front (p.bytes ∷ []) (map bytes_of ps)) (subst Q long rest))
+    ((nth-middle p.bytes front (map bytes_of ps), refl, less p (inl refl)), subst P (append_assoc front (p.bytes ∷ []) (map bytes_of ps)) (subst Q long rest))
 
 map-staging : {X Y : Type 0} (g : X → Y) (f : X → X) (i j : ℕ) (xs : List X) → j ≢ i → nth j (map g (change i f xs)) ≡ nth j (map g xs)
 map-staging g f i j [] other = refl

@@ -11,7 +11,7 @@ use Rattle.model_run.specs.{Run.Run, Run.System, Run.after_events, Run.change, R
 use Rattle.cmd_status.specs.declared.fault.Fault.{Fault}
 use Rattle.cmd_store.specs.Coming.{Coming, Fails, Holds, Unknown}
 use Rattle.law_stations.specs.{Agreement.Agrees, Agreement.AreTossesOf, Agreement.HasSystem, Agreement.IsPacketFile, Agreement.limits_of, Agreement.own_address, Nets.Net, Nets.Paired, Nets.Station, Nets.with_base, Nets.with_indexes, Nets.with_tossed, Commands.IsPacketAt, Commands.Tosses, Commands.whole_of}
-use Rattle.law_stations.proofs.{FileRuns.IsPartly, FileRuns.TossedFiles, FileRuns.tossed-all, FileRuns.wholes, Pairs.change-same, Pairs.change-twice, Pairs.paired-nth, Places.addresses-stay, Places.place-of, Putting.puts-agree, Readings.TossesFront, Readings.front-packet, Readings.one-packet, Systems.file-fits, Systems.one-file, Tossed.Takes, Tossed.takes-front, Unpurged.AsFiledAt, Unpurged.change-as_filed, Unpurged.tossing-as_filed}
+use Rattle.law_stations.proofs.{FileRuns.IsPartly, FileRuns.TossedFiles, FileRuns.tossed-all, FileRuns.wholes, Pairs.change-same, Pairs.change-twice, Pairs.paired-length, Pairs.paired-nth, Places.addresses-stay, Places.place-of, Putting.puts-agree, Readings.TossesFront, Readings.front-packet, Readings.one-packet, Systems.file-fits, Systems.one-file, Tossed.Takes, Tossed.takes-front, Unpurged.AsFiledAt, Unpurged.change-as_filed, Unpurged.tossing-as_filed}
 use Rattle.model_run.proofs.HarmLists.{nth-changed as changed-there}
 
 -- the base of a state
@@ -144,16 +144,10 @@ each-toss (suc n) i (k ∷ later) (Holds bytes ∷ files) net run new h are (mid
       as_filed = λ j at. subst (λ (r : Run). AsFiledAt j (after_events r rest.events).systems) (sym becomes) (rest.as_filed j (took.as_filed j at));
     }
 
-pub same-length : (packets : List (List ℕ)) (indexes : List ℕ) (files : List Coming) → Paired (IsPacketAt packets) indexes files → length indexes ≡ length files
-same-length packets [] [] are = refl
-same-length packets [] (file ∷ files) are = absurd are
-same-length packets (k ∷ indexes) [] are = absurd are
-same-length packets (k ∷ indexes) (file ∷ files) are = let e = same-length packets indexes files are.1 in omega (arith, e)
-
 pub whole-first : (packets : List (List ℕ)) (indexes : List ℕ) (files : List Coming) (stopped : Option Fault) (left : List Coming) → Paired (IsPacketAt packets) indexes files
     → take (wholes (length files) stopped left) indexes ≡ whole_of indexes stopped left
-whole-first packets indexes files None left are = take_all (length files) indexes (omega (arith, same-length packets indexes files are))
-whole-first packets indexes files (Some fault) left are = ap (λ (n : ℕ). take (n - (length left + 1)) indexes) (sym (same-length packets indexes files are))
+whole-first packets indexes files None left are = take_all (length files) indexes (omega (arith, paired-length (IsPacketAt packets) indexes files are))
+whole-first packets indexes files (Some fault) left are = ap (λ (n : ℕ). take (n - (length left + 1)) indexes) (sym (paired-length (IsPacketAt packets) indexes files are))
 
 pub toss-agrees : (indexes : List ℕ) (net new : Net) (i : ℕ) (run : Run) → Different (map own_address run.systems) → Agrees net run → Tosses indexes net i new
     → (events : List RunEvent) × AreTossesOf indexes events × Agrees new (after_events run events)

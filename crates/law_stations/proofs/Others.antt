@@ -1,6 +1,5 @@
 -- A posting, a purge or a toss on the disks is one on the net, and moves no cursor.
 use Rattle.std.proofs.Common.{◌≡◌, ◌⊎◌, inl, inr, refl, sym, subst, ap, ◌∙◌, ℕ, zero, suc, append-nil, List, [], ◌∷◌, ◌++◌, length, map, take, Option, Some, None, arith}
-use Rattle.std.proofs.lemmas.Bool.{eqb-true}
 use Rattle.base_file.specs.Base.{Base}
 use Rattle.model_graph.specs.Walk.{Among}
 use Rattle.echo_filed.specs.Filed.{Filed}
@@ -8,7 +7,7 @@ use Rattle.echo_links.specs.Links.{LinkFile}
 use Rattle.model_steps.specs.{Posting.posted, SystemState.SystemState}
 use Rattle.base_store.specs.Store.{purged}
 use Rattle.echo_toss.specs.PacketsIn.{state_in}
-use Rattle.model_run.{specs.Run.{change, nth, with_index}, proofs.Lists.{any-from, with_index-from}}
+use Rattle.model_run.{specs.Run.{change, nth, with_index}, proofs.Lists.{with_index-from, with_index-new, with_index-old}}
 use Rattle.cmd_store.specs.{declared.drafting.NewMessage.NewMessage, Coming.Coming, Coming.Fails, Coming.Holds, Coming.Unknown, Drafts.draft_given}
 use Rattle.law_stations.specs.Commands.{Command, IsAt, IsPacketAt, Leads, Post, Posts, Purge, Purges, Toss, Tosses, whole_of}
 use Rattle.law_stations.specs.{Nets.Net, Nets.Paired, Nets.Station, Nets.with_base, Nets.with_indexes, Nets.with_left, Nets.with_posting, Nets.with_tossed, Disks.Disks, Disks.cursor_of}
@@ -121,20 +120,14 @@ take-placed f zero j indexes h = absurd h
 take-placed f (suc n) j [] h = absurd h
 take-placed f (suc n) j (k ∷ indexes) h = elim h [ inl e ↦ inl (ap f e) | inr t ↦ inr (take-placed f n j indexes t) ]
 
-joins : (k : ℕ) (ks : List ℕ) → Among k (with_index k ks)
-joins k ks = grind (arith, any-from, eqb-true)
-
-stays : (k j : ℕ) (ks : List ℕ) → Among j ks → Among j (with_index k ks)
-stays k j ks h = grind arith
-
 all-stay : (xs : List ℕ) (j : ℕ) (ks : List ℕ) → Among j ks → Among j (with_indexes xs ks)
 all-stay [] j ks h = h
-all-stay (x ∷ xs) j ks h = all-stay xs j (with_index x ks) (stays x j ks h)
+all-stay (x ∷ xs) j ks h = all-stay xs j (with_index x ks) (with_index-old x j ks h)
 
 all-join : (xs : List ℕ) (j : ℕ) (ks : List ℕ) → Among j xs → Among j (with_indexes xs ks)
 all-join [] j ks h = absurd h
 all-join (x ∷ xs) j ks h = elim h [
-  | inl e ↦ (let P : ℕ → Type 0 = λ y. Among y (with_index x ks) in all-stay xs j (with_index x ks) (subst P (sym e) (joins x ks)))
+  | inl e ↦ (let P : ℕ → Type 0 = λ y. Among y (with_index x ks) in all-stay xs j (with_index x ks) (subst P (sym e) (with_index-new x ks)))
   | inr t ↦ all-join xs j (with_index x ks) t
 ]
 

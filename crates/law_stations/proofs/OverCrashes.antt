@@ -1,23 +1,19 @@
 -- The contents of one station without crashes are those of its disks over crashes.
-use Rattle.std.proofs.Common.{◌≡◌, inl, inr, refl, sym, subst, List, [], ◌∷◌}
+use Rattle.std.proofs.Common.{arith, ◌≡◌, inl, inr, subst, List, [], ◌∷◌}
 use Rattle.model_graph.specs.Walk.{Among}
-use Rattle.law_stations.specs.{LoneStations.LoneCommand, LoneStations.LoneStation, LoneStations.PostAlone, LoneStations.PurgeAlone, LoneStations.ScanAlone, LoneStations.TossAny, Nets.Paired, Nets.first_net, AloneInOrder.IsInOrderAlone, AloneInOrder.ShowsStill, AloneOverCrashes.AloneIsInOrderOverCrashes, AloneOverCrashes.AloneStaysOverCrashes, LoneDisks.lone_disks_at_first, LoneDisks.on_net}
-use Rattle.law_stations.proofs.{Stays.alone-in-order, Stays.alone-stays, EachCommand.first-tracks, EachCommand.has-net, Grown.all-grow, Crashes.IsLikeAlone, Crashes.followed-all-alone}
+use Rattle.model_run.proofs.{HarmLists.among-nth, Lists.nth-among}
+use Rattle.law_stations.specs.{LoneStations.LoneCommand, LoneStations.LoneStation, LoneStations.PurgeAlone, Nets.Paired, Nets.first_net, AloneInOrder.IsInOrderAlone, AloneInOrder.ShowsStill, AloneOverCrashes.AloneIsInOrderOverCrashes, AloneOverCrashes.AloneStaysOverCrashes, LoneDisks.lone_disks_at_first, LoneDisks.on_net}
+use Rattle.law_stations.proofs.{Pairs.paired-back, Stays.alone-in-order, Stays.alone-stays, EachCommand.first-tracks, EachCommand.has-net, Grown.all-grow, Crashes.IsLikeAlone, Crashes.followed-all-alone}
 
 like-purge : (command : LoneCommand) → IsLikeAlone command PurgeAlone → command ≡ PurgeAlone
-like-purge (PostAlone words body) like = cc
-like-purge (ScanAlone stamp) like = cc
-like-purge PurgeAlone like = refl
-like-purge (TossAny files) (others, like) = cc
+like-purge command like = grind arith
 
 purged-too : (commands plain : List LoneCommand) → Paired IsLikeAlone commands plain → Among PurgeAlone plain → Among PurgeAlone commands
-purged-too [] [] like h = h
-purged-too [] (p ∷ plain) like h = absurd like
-purged-too (c ∷ commands) [] like h = absurd h
-purged-too (c ∷ commands) (p ∷ plain) like h = elim h [
-  | inl e ↦ (let P : LoneCommand → Type 0 = λ x. IsLikeAlone c x in inl (sym (like-purge c (subst P (sym e) like.0))))
-  | inr t ↦ inr (purged-too commands plain like.1 t)
-]
+purged-too commands plain like h =
+    let (k, at) = among-nth PurgeAlone plain h in
+    let (c, there, is) = paired-back IsLikeAlone k PurgeAlone commands plain like at in
+    let P : LoneCommand → Type 0 = λ x. Among x commands in
+    subst P (like-purge c is) (nth-among k c commands there)
 
 in-order-too : (commands plain : List LoneCommand) (s : LoneStation) → Paired IsLikeAlone commands plain → IsInOrderAlone plain s → IsInOrderAlone commands s
 in-order-too commands plain s like is = record {

@@ -1,5 +1,5 @@
 -- Two lists with a relation between their items, pair by pair, and lists in which one item changes.
-use Rattle.std.proofs.Common.{◌≡◌, inl, inr, refl, sym, subst, ap, ◌∙◌, ℕ, zero, suc, List, [], ◌∷◌, ◌++◌, map, Some}
+use Rattle.std.proofs.Common.{◌≡◌, inl, inr, refl, sym, subst, ap, ◌∙◌, ℕ, zero, suc, List, [], ◌∷◌, ◌++◌, length, map, Some, arith}
 use Rattle.model_graph.specs.Walk.{Among}
 use Rattle.model_run.{specs.Run.{change, nth}, proofs.Targets.{some_same, none_some}}
 use Rattle.law_stations.specs.Nets.{Paired}
@@ -31,6 +31,12 @@ paired-append R [] us [] vs p q = q
 paired-append R [] us (y ∷ ys) vs p q = absurd p
 paired-append R (x ∷ xs) us [] vs p q = absurd p
 paired-append R (x ∷ xs) us (y ∷ ys) vs p q = (p.0, paired-append R xs us ys vs p.1 q)
+
+pub paired-length : {X Y : Type 0} (R : X → Y → Type 0) (xs : List X) (ys : List Y) → Paired R xs ys → length xs ≡ length ys
+paired-length R [] [] p = refl
+paired-length R [] (y ∷ ys) p = absurd p
+paired-length R (x ∷ xs) [] p = absurd p
+paired-length R (x ∷ xs) (y ∷ ys) p = omega (arith, paired-length R xs ys p.1)
 
 pub change-twice : {X : Type 0} (i : ℕ) (f g : X → X) → ((x : X) → g (f x) ≡ g x) → (xs : List X) → change i g (change i f xs) ≡ change i g xs
 change-twice i f g last [] = refl

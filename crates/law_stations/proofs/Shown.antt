@@ -1,31 +1,24 @@
 -- The contents of nets without crashes are those of the disks over crashes.
-use Rattle.std.{proofs.Common.{◌≡◌, inl, inr, refl, sym, subst, ap, ◌∙◌, ℕ, ◌+◌, ◌≤◌, arith, append-nil, List, [], ◌∷◌, map, Some}, specs.Prelude.if◌then◌else◌}
+use Rattle.std.{proofs.Common.{◌≡◌, inl, inr, refl, sym, subst, ap, ◌∙◌, ℕ, ◌+◌, ◌≤◌, arith, List, [], ◌∷◌, map, Some}, specs.Prelude.if◌then◌else◌}
 use Rattle.echo_addr.specs.declared.address.Address.{Address}
 use Rattle.model_graph.specs.Walk.{Among, Different}
 use Rattle.echo_links.specs.Links.{LinkFile, same_address}
 use Rattle.echo_filed.specs.{declared.key.Key.Key, Filed.Filed}
 use Rattle.model_steps.specs.declared.packet.Packet.{Packet}
-use Rattle.model_run.{specs.{Orderly.{copies, count, sent_count}, Run.{destination, nth}}, proofs.{Lists.nth-among, HarmLists.nth-map}}
-use Rattle.law_stations.specs.{Commands.Command, Commands.CommandEvent, Commands.Post, Commands.Purge, Commands.Scan, Commands.Toss, OverCrashes.HasNet, OverCrashes.IsLike, OverCrashes.IsLikeEvent, OverCrashes.SoundOverCrashes, Nets.Net, Nets.Paired, Nets.Station, Disks.Disks, InOrder.IsSound, InOrder.IsUnchanged, InOrder.ReadsAs, InOrder.StationHolds, InOrder.WasPurged}
-use Rattle.law_stations.proofs.{Pairs.paired-among, Pairs.paired-nth, Readings.one-packet, Sound.nets-are-sound, Counting.IsItem, Counting.picked-total, Counting.total, EachCommand.crashes-are-none}
+use Rattle.model_run.{specs.{Orderly.{copies, count, sent_count}, Run.{destination, nth}}, proofs.{Lists.nth-among, HarmLists.{among-nth, nth-map}}}
+use Rattle.law_stations.specs.{Commands.Command, Commands.CommandEvent, Commands.Purge, OverCrashes.HasNet, OverCrashes.IsLike, OverCrashes.IsLikeEvent, OverCrashes.SoundOverCrashes, Nets.Net, Nets.Paired, Nets.Station, Nets.first_net, Disks.Disks, Disks.first_disks, InOrder.IsSound, InOrder.IsUnchanged, InOrder.ReadsAs, InOrder.StationHolds, InOrder.WasPurged}
+use Rattle.law_stations.proofs.{Headline.reads-once, Pairs.paired-among, Pairs.paired-back, Pairs.paired-nth, Sound.nets-are-sound, Counting.IsItem, Counting.picked-total, Counting.total, EachCommand.crashes-from, EachCommand.first-tracks}
 
-like-purge : (command : Command) → IsLike command Purge → command ≡ Purge
-like-purge (Post words body) like = cc
-like-purge (Scan stamp) like = cc
-like-purge Purge like = refl
-like-purge (Toss indexes) (others, like) = cc
+pub like-purge : (command : Command) → IsLike command Purge → command ≡ Purge
+like-purge command like = grind arith
 
 purged-too : (commands plain : List CommandEvent) (i : ℕ) → Paired IsLikeEvent commands plain → WasPurged plain i → WasPurged commands i
-purged-too [] [] i like h = h
-purged-too [] (p ∷ plain) i like h = absurd like
-purged-too (c ∷ commands) [] i like h = absurd h
-purged-too (c ∷ commands) (p ∷ plain) i like h = elim h [
-  | inl e ↦ (
-      let station : c.station ≡ i = sym like.0.station ∙ ap (λ (x : CommandEvent). x.station) (sym e) in
-      let command : c.command ≡ Purge = like-purge c.command (subst (IsLike c.command) (ap (λ (x : CommandEvent). x.command) (sym e)) like.0.command) in
-      inl (λ k. record { station = sym station k; command = sym command k }))
-  | inr t ↦ inr (purged-too commands plain i like.1 t)
-]
+purged-too commands plain i like h =
+    let purge : CommandEvent = record { station = i; command = Purge } in
+    let (k, at) = among-nth purge plain h in
+    let (c, there, is) = paired-back IsLikeEvent k purge commands plain like at in
+    let P : CommandEvent → Type 0 = λ x. Among x commands in
+    subst P (λ j. record { station = sym is.station j; command = like-purge c.command is.command j }) (nth-among k c commands there)
 
 pub unchanged-too : (commands plain : List CommandEvent) (i : ℕ) (messages : List Filed) (cursor : ℕ) (m posting : Filed) → Paired IsLikeEvent commands plain
     → IsUnchanged plain i messages cursor m posting → IsUnchanged commands i messages cursor m posting
@@ -37,11 +30,6 @@ unchanged-too commands plain i messages cursor m posting like (inr left) = inr (
   stub = left.stub;
   same = left.same;
 })
-
-reads-once : (bytes : List ℕ) (p q : Packet) → ReadsAs bytes p → ReadsAs bytes q → q ≡ p
-reads-once bytes p q (a, is) (b, other) =
-    let one = one-packet a b p.header q.header p.messages q.messages bytes bytes [] is other (sym (append-nil bytes)) in
-    λ i. record { header = one.0 i; messages = one.1 i }
 
 -- the number of a packet's messages for an address
 abbrev weight : Address → Key → Packet → ℕ
@@ -98,5 +86,5 @@ module _ (commands plain : List CommandEvent) (d : Disks) (net : Net) (like : Pa
 
 pub sound-over-crashes : SoundOverCrashes
 sound-over-crashes links files are apart commands d happen =
-    let (plain, net, like, plainly, has) = crashes-are-none links commands d happen in
+    let (plain, net, like, plainly, has) = crashes-from commands (first_disks links) d (first_net links) (first-tracks links) happen in
     sound-too commands plain d net like has (nets-are-sound links files are apart plain net plainly)

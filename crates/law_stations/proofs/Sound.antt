@@ -1,13 +1,13 @@
 -- A net that agrees with a run is sound.
-use Rattle.std.proofs.Common.{◌≡◌, inl, inr, refl, sym, subst, ap, ◌∙◌, ℕ, ◌≤◌, List, [], ◌∷◌, Some}
+use Rattle.std.proofs.Common.{◌≡◌, ◌⊎◌, inl, inr, refl, sym, subst, ap, ◌∙◌, ℕ, ◌≤◌, List, [], ◌∷◌, Some}
 use Rattle.model_graph.specs.Walk.{Among}
 use Rattle.echo_links.specs.Links.{IsFile, LinkFile}
 use Rattle.echo_filed.specs.Filed.{Filed, key_of}
 use Rattle.model_steps.specs.{declared.packet.Packet.Packet, SystemState.SystemState}
 use Rattle.model_run.specs.{Run.Run, Run.System, Run.after_events, Run.fresh, Run.nth, Run.start, Fits.FilesFit, Orderly.SameContent, Orderly.count, Orderly.tag_of, Keeping.Content}
-use Rattle.model_run.proofs.{Areas.key-tag, EachSystem.run-kept, Lists.nth-among, Lists.Among-map_from, Origins.run-traced, WholeRuns.run-ok, TosserLaws.the_laws, Bases.filed-once}
+use Rattle.model_run.proofs.{Areas.key-tag, Bases.Kept, EachSystem.run-kept, Lists.nth-among, Lists.Among-map_from, Origins.run-traced, WholeRuns.run-ok, TosserLaws.the_laws, Bases.filed-once}
 use Rattle.cmd_status.specs.Inputs.{AreLinkFiles}
-use Rattle.law_stations.specs.{InOrder.IsSound, InOrder.IsUnchanged, InOrder.NetsAreSound, InOrder.ReadsAs, InOrder.StationHolds, Agreement.Agrees, Agreement.HasSystem, Agreement.IsPacketFile, Agreement.limits_of, Commands.CommandEvent, Nets.Net}
+use Rattle.law_stations.specs.{InOrder.IsSound, InOrder.IsUnchanged, InOrder.NetsAreSound, InOrder.ReadsAs, InOrder.StationHolds, InOrder.WasPurged, Agreement.Agrees, Agreement.HasSystem, Agreement.IsPacketFile, Agreement.limits_of, Commands.CommandEvent, Nets.Net}
 use Rattle.law_stations.proofs.{EachEvent.LedAll, EachEvent.led-from-first, Pairs.paired-among, Pairs.paired-nth, Systems.file-fits, Systems.said-once, Systems.says-so, Unpurged.AsFiledAt, Unpurged.IsAsFiled, Unpurged.kept-where}
 
 pub reads : (bytes : List ℕ) (p : Packet) → IsPacketFile bytes p → ReadsAs bytes p
@@ -32,35 +32,32 @@ represented net run agrees i file messages cursor holds =
     let once = said-once holds.station s has file messages cursor holds.says in
     record { s = s; at = at; among = nth-among i s run.systems at; same = λ P h. subst (λ (x : SystemState). P x.file x.base x.cursor) (sym once) h }
 
+-- a message of a base has the content of a posting, or is a stub
+pub is-unchanged : (commands : List CommandEvent) (i : ℕ) (s : System) → Kept s.cursor s.base s.history → WasPurged commands i ⊎ IsAsFiled s → (m : Filed) → Among m s.base
+    → (filed : Filed) × Among filed s.history × (key_of m ≡ key_of filed)
+    × ((posting : Filed) → SameContent filed posting → IsUnchanged commands i s.base s.cursor m posting)
+is-unchanged commands i s kept (inl purged) m h =
+    let (filed, was, is, form) = kept-where s.cursor s.base s.history kept m h in (
+      filed,
+      was,
+      is.key,
+      λ posting same. elim form [
+        | inl as_filed ↦ (let P : Filed → Type 0 = λ x. SameContent x posting in inl (subst P (sym as_filed) same))
+        | inr left ↦ inr (record { purged = purged; scanned_before = left.0; filed = filed; stub = left.1; same = same })
+      ],
+    )
+is-unchanged commands i s kept (inr as_filed) m h = (let P : List Filed → Type 0 = λ ms. Among m ms in (m, subst P as_filed h, refl, λ posting same. inl same))
+
 module _ (commands : List CommandEvent) (net : Net) (files : List LinkFile) (fit : FilesFit files) (led : LedAll commands net (start files)) where
   abbrev run : Run
   run = after_events (start files) led.events
-
-  -- a message of a base has the content of a posting, or is a stub
-  pub is-unchanged : (i : ℕ) (s : System) → nth i run.systems ≡ Some s → (m : Filed) → Among m s.base
-      → (filed : Filed) × Among filed s.history × (key_of m ≡ key_of filed)
-      × ((posting : Filed) → SameContent filed posting → IsUnchanged commands i s.base s.cursor m posting)
-  is-unchanged i s at m h = elim (led.as_filed i) [
-    | inl purged ↦ (
-        let (filed, was, kept, form) = kept-where s.cursor s.base s.history (run-kept the_laws files led.events s (nth-among i s run.systems at)) m h in (
-          filed,
-          was,
-          kept.key,
-          λ posting same. elim form [
-            | inl as_filed ↦ (let P : Filed → Type 0 = λ x. SameContent x posting in inl (subst P (sym as_filed) same))
-            | inr left ↦ inr (record { purged = purged; scanned_before = left.0; filed = filed; stub = left.1; same = same })
-          ],
-        ))
-    | inr keeps ↦ (
-        let P : List Filed → Type 0 = λ ms. Among m ms in
-        (m, subst P (keeps (first-as_filed files i) s at) h, refl, λ posting same. inl same))
-  ]
 
   from-posting : (i : ℕ) (s : System) → nth i run.systems ≡ Some s → (m : Filed) → Among m s.base
       → (posting : Filed) × Among posting net.postings × (posting.echo.tag ≡ m.echo.tag) × IsUnchanged commands i s.base s.cursor m posting
   from-posting i s at m h =
       let there = nth-among i s run.systems at in
-      let (filed, was, same_key, unchanged) = is-unchanged i s at m h in
+      let (filed, was, same_key, unchanged) = is-unchanged commands i s (run-kept the_laws files led.events s there)
+      (elim (led.as_filed i) [ inl purged ↦ inl purged | inr keeps ↦ inr (keeps (first-as_filed files i) s at) ]) m h in
       let (f, at_f, rest) = (run-traced the_laws files fit led.events).systems s there filed was in
       let (o, at_o, own, key, content) = rest in
       let same : SameContent filed o = record {

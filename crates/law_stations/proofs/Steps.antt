@@ -1,5 +1,5 @@
 -- A command on one station is some events of the system by itself.
-use Rattle.std.proofs.{Common.{◌≡◌, inl, inr, refl, sym, subst, ap, ℕ, true, List, [], ◌∷◌, ◌++◌, length, Ok}, lemmas.List.{append-nil, append_assoc}}
+use Rattle.std.proofs.{Common.{arith, ◌≡◌, inl, inr, refl, sym, subst, ap, ℕ, true, List, [], ◌∷◌, ◌++◌, length, Ok}, lemmas.List.{append-nil, append_assoc}}
 use Rattle.std.specs.Prelude.{Bool, false, if◌then◌else◌}
 use Rattle.model_graph.{specs.Walk.Among, proofs.Members.{Among-append_cases, Among-append_left, Among-append_right}}
 use Rattle.echo_links.specs.{Links.LinkFile, LinkLines.LinksOf}
@@ -18,10 +18,7 @@ IsNoToss (TossHere sender messages) = ⊥
 IsNoToss other = Unit {0}
 
 plain-here : (e : LoneEvent) → IsNoToss e → IsOfPackets e
-plain-here (PostHere tag draft serial stamp) h = tt
-plain-here (TossHere sender messages) h = absurd h
-plain-here (ScanHere stamp) h = tt
-plain-here PurgeHere h = tt
+plain-here e h = grind arith
 
 quiet-step : (file : LinkFile) (s new : LoneStation) (events : List LoneEvent) (event : LoneEvent) → IsLone file s events → IsNoToss event → NothingCame s new →
     Agrees new.net (run_alone (after_lone (lone_run file events) event)) → IsLone file new (events ++ event ∷ [])
@@ -128,10 +125,7 @@ one-of : (P : LoneEvent → Type 0) (event : LoneEvent) → P event → (e : Lon
 one-of P event h e i = elim i [ inl same ↦ subst P (sym same) h | inr end ↦ absurd end ]
 
 no-purge-from : (file : LinkFile) (files : List (List ℕ)) (e : LoneEvent) → IsTossFrom file files e → IsPurge e → ⊥
-no-purge-from file files (PostHere tag draft serial stamp) from h = h
-no-purge-from file files (TossHere sender messages) from h = h
-no-purge-from file files (ScanHere stamp) from h = h
-no-purge-from file files PurgeHere from h = from
+no-purge-from file files e from h = grind arith
 
 leads-step : (file : LinkFile) (s new : LoneStation) (events : List LoneEvent) (command : LoneCommand) → IsLone file s events → LeadsAlone command s new →
     (added : List LoneEvent) × IsLone file new (events ++ added) × AreOfCommands (command ∷ []) added

@@ -1,6 +1,6 @@
 -- A toss of any files is a toss of messages in them.
 use Rattle.std.proofs.Common.{◌≡◌, inl, inr, refl, sym, subst, ap, ◌∙◌, ℕ, zero, suc, arith, List, [], ◌∷◌, ◌++◌, length, take, Option, Some, None}
-use Rattle.std.{proofs.lemmas.List.take_all, specs.List.AllByRecursion}
+use Rattle.std.{proofs.lemmas.List.take_all}
 use Rattle.echo_addr.specs.declared.address.Address.{Address}
 use Rattle.model_graph.{specs.Walk.Among, proofs.Members.{Among-append_cases, Among-append_left, Among-append_right}}
 use Rattle.echo_packet.specs.{declared.header.Header.Header, declared.limits.Limits.Limits, Message.HasNoZero, Message.IsMessage, Message.Message, Packet.PacketOf}
@@ -12,20 +12,12 @@ use Rattle.model_run.specs.{Lone.LoneEvent, Lone.LoneSystem, Lone.TossHere, Lone
 use Rattle.cmd_status.specs.declared.fault.Fault.{Fault}
 use Rattle.cmd_store.specs.Coming.{Coming, Fails, Holds, Unknown}
 use Rattle.law_stations.proofs.{FileRuns.IsPartly, FileRuns.TossedFiles, FileRuns.wholes, Readings.TossesFront, Tossed.Takes, Tossed.takes-both, Tossed.takes-front, Tossed.takes-none}
-use Rattle.model_run.proofs.Filings.{events-append}
+use Rattle.model_run.proofs.{Filings.events-append, States.each-of}
 use Rattle.law_stations.specs.{AloneInOrder.FaultlessTossIsWhole, LoneStations.AreAnyFiles, LoneStations.held_in, LoneStations.tossed_whole}
 
 pub front-plain : (bytes : List ℕ) (limits : Limits) (header : Header) (messages : List Message) → BeginsWith limits header messages bytes
     → (packed : Message) → Among packed messages → HasNoZero packed.text
-front-plain bytes limits header messages begins packed h = each messages begins.are_messages.each packed h
-  where
-    each : (ms : List Message) → AllByRecursion (IsMessage limits.text) ms → (q : Message) → Among q ms → HasNoZero q.text
-    each [] all q i = absurd i
-    each (m ∷ ms) all q i =
-        elim i [
-          | inl e ↦ (let P : Message → Type 0 = λ x. HasNoZero x.text in subst P (sym e) all.0.text.no_zero)
-          | inr t ↦ each ms all.1 q t
-        ]
+front-plain bytes limits header messages begins packed h = (each-of (IsMessage limits.text) messages begins.are_messages.each packed h).text.no_zero
 
 -- messages at the beginning of the bytes, from the sender in their header
 pub record IsInFront (file : LinkFile) (bytes : List ℕ) (sender : Address) (messages : List Message) : Type 0 where

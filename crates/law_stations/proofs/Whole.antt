@@ -5,7 +5,7 @@ use Rattle.model_graph.specs.Walk.{Among}
 use Rattle.model_steps.specs.{declared.stamp.Stamp.Stamp, PacketFiles.PacketFile}
 use Rattle.base_store.specs.Store.{all_scanned}
 use Rattle.law_stations.specs.Commands.{Command, CommandEvent, Happen, Leads, Post, Purge, Scan, Scans, Toss, Tosses}
-use Rattle.law_stations.specs.{Stopping.EndsOne, Stopping.EndsSome, Stopping.PartialEffect, Stopping.MayHappen, Stopping.MayHappenAll, Stopping.Moves, Stopping.ScansFar, Stopping.staging_of, Nets.Net, Nets.bytes_of, Nets.first_net, Nets.with_left, Disks.StagingFile, Disks.Disks, Disks.HasCursor, Disks.with_packet, OverCrashes.WholeAreAmong, OverCrashes.disks_of}
+use Rattle.law_stations.specs.{Stopping.EndsOne, Stopping.EndsSome, Stopping.PartialEffect, Stopping.MayHappen, Stopping.MayHappenAll, Stopping.Moves, Stopping.ScansFar, Stopping.staging_of, Nets.Net, Nets.bytes_of, Nets.with_left, Disks.StagingFile, Disks.Disks, Disks.HasCursor, Disks.with_packet, OverCrashes.disks_of}
 use Rattle.law_stations.proofs.{Moving.now-cursor, Moving.scans-less, Tracking.has-cursor}
 
 -- the net with more packet files
@@ -67,7 +67,7 @@ led-far (Toss indexes) i net new leads =
     let P : List ℕ → Type 0 = λ ks. Tosses ks net i new in
     (length indexes, subst P (sym (take_all (length indexes) indexes (omega arith))) leads, refl)
 
-whole-all : (commands : List CommandEvent) (net new : Net) → Happen commands net new → MayHappenAll commands (disks_of net) (disks_of new)
+pub whole-all : (commands : List CommandEvent) (net new : Net) → Happen commands net new → MayHappenAll commands (disks_of net) (disks_of new)
 whole-all [] net new same = ap disks_of same
 whole-all (event ∷ commands) net new (next, first, rest) =
     let may : MayHappen event (disks_of net) (disks_of next) = elim first [
@@ -75,6 +75,3 @@ whole-all (event ∷ commands) net new (next, first, rest) =
       | inr leads ↦ inr (led-far event.command event.station net next leads)
     ] in
     (disks_of next, may, whole-all commands next new rest)
-
-pub whole-are-among : WholeAreAmong
-whole-are-among links commands net happen = whole-all commands (first_net links) net happen

@@ -3,7 +3,7 @@
 //!
 //! Promise: a net of stations keeps what the model promises (`laws`). If crashes stop commands, the disks show what
 //! they would show without crashes (`crash_laws`). One station alone keeps its part, whatever bytes `toss` gets
-//! (`lone_laws`). Rounds of repair bring each message everywhere (`repair_laws`).
+//! (`lone_laws`). Rounds of repair bring each message everywhere, over crashes too (`repair_laws`).
 //!
 //! Begin with specs/: `Nets` (stations, packet files) and `Commands` (the effect of a command on them). `Agreement`
 //! says when a net and a run agree, `InOrder` is the promise about a net. `Repairs` has packets of repairs, and rounds.
@@ -47,7 +47,10 @@ pub use lone_laws::{
     lone_stations_are_in_order_over_crashes, what_lone_stations_show_stays,
     what_lone_stations_show_stays_over_crashes,
 };
-pub use repair_laws::{repairs_bring_all_everywhere, what_is_mended_is_everywhere};
+pub use repair_laws::{
+    packets_of_repairs_reach, repairs_bring_all_everywhere, repairs_bring_all_there,
+    what_is_mended_is_everywhere,
+};
 pub use scanning::scan_as_may;
 pub use sequence_laws::{
     a_cut_scan_goes_on, commands_continue, new_messages_are_in_order_over_sequences,

@@ -1,5 +1,5 @@
-use Rattle.law_stations.proofs.EachCommand.{crashes-are-none}
+use Rattle.law_stations.{specs.{Disks.first_disks, Nets.first_net}, proofs.EachCommand.{crashes-from, first-tracks}}
 use Rattle.law_stations.proofs.crash_laws.crashes_are_none.Goals as goal
 
 pub returns : goal.returns
-returns c = crashes-are-none
+returns c = λ links commands d happen. crashes-from commands (first_disks links) d (first_net links) (first-tracks links) happen

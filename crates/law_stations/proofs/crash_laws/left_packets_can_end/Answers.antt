@@ -1,5 +1,6 @@
-use Rattle.law_stations.proofs.Ended.{left-can-end}
+use Rattle.std.proofs.Common.{[]}
+use Rattle.law_stations.proofs.Ended.{can-end}
 use Rattle.law_stations.proofs.crash_laws.left_packets_can_end.Goals as goal
 
 pub returns : goal.returns
-returns c = left-can-end
+returns c = λ i d cursor has. can-end i cursor d.staging [] d.net (λ file is. absurd is) has
