@@ -1,5 +1,5 @@
 -- Escaped bytes are read back. So the words that are accepted as ids are those of ids, and each id has a word of its own.
-use Rattle.std.proofs.Common.{◌≡◌, ℕ, zero, suc, ◌+◌, ◌<◌, Bool, true, false, Option, Some, None, List, [], ◌∷◌, ◌++◌, length, drop, get_or, inl, inr, refl, sym, ap, subst, ◌∙◌, append_assoc, arith}
+use Rattle.std.proofs.Common.{◌≡◌, ℕ, zero, suc, ◌+◌, ◌<◌, Bool, true, Option, Some, None, List, [], ◌∷◌, ◌++◌, length, drop, get_or, inl, inr, refl, sym, ap, subst, ◌∙◌, append_assoc, arith}
 use Rattle.std.{proofs.lemmas.{Bool.{cases_Bool, eqb-true, true≢false}, List.drop_more}, specs.Prelude.{◌==◌, ◌&&◌, nat_lt, bytes_eq}}
 use Rattle.std.specs.{Cmp.Lexicographic.bytes_decides, List.AllByRecursion, List.cons_option, List.fold, List.list_all}
 use Rattle.echo_charset.specs.Escaped.{escaped, escaped_byte}
