@@ -28,7 +28,7 @@ all_lent paths = grind (arith, length-map, as_left, get_or-map)
 
 -- a step that changes nothing
 pub finishes_none : (cursor : ℕ) (found : List Left) (c : Files) → FinishesEach cursor found c c
-finishes_none cursor found c = record { others = λ m other. refl; ends = λ k z lt. record { committed = λ below. inr refl; untouched = λ above. refl; either = inl refl } }
+finishes_none cursor found c = record { others = λ m other. refl; ends = λ k z lt. record { committed = λ below. inr refl; untouched = λ above. refl; either = inl refl; staged = inl refl } }
 
 -- a run that changes nothing
 pub none_moment : (cursor : ℕ) (found : List Left) (d0 d1 : DiskState) → ChangesNothing d0 d1 → LeavesOnly d0 d1 (OneStepOn (FinishesEach cursor found) d0)
