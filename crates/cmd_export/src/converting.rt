@@ -33,9 +33,7 @@ pub(crate) fn run_convert<'a, W: Sink>(
     let hasher = hash_state(rt)?;
     let messages = open_folder(rt, from, 0, None)?;
     let mut messages = Distinct::new(rt.alloc(), messages, hasher);
-    if is_folder(rt, to) {
-        judge_messages(rt, from, &mut messages)?;
-    }
+    judge_for(rt, from, &mut messages, to)?;
     convert_messages(rt, from, &mut messages, to, out)
 }
 
@@ -54,6 +52,22 @@ fn convert_messages<'a, M: MessageSource, W: Sink>(
         save_file(rt, from, messages, to)?;
     }
     print_converted(rt, messages.count(), messages.cursor(), out)
+}
+
+fn judge_for<'a, M: MessageSource>(
+    rt: &HostRuntime,
+    from: &'a str,
+    messages: &mut M,
+    to: &str,
+) -> Result<(), Fault<'a>>
+    requires { (M.state messages.old).is_ready }
+    ensures { LooksAt (M.state messages.old) (M.state messages.new) }
+{
+    if is_folder(rt, to) {
+        judge_messages(rt, from, messages)
+    } else {
+        Ok(())
+    }
 }
 
 fn judge_messages<'a, M: MessageSource>(
