@@ -6,7 +6,7 @@ use Rattle.echo_packet.specs.declared.limits.Limits.{Limits}
 use Rattle.cmd_status.specs.{declared.fault.Fault.Fault, declared.fault.Fault.TheVariants.OutOfMemory, declared.fault.Fault.TheVariants.TossMemory, Devices.Device}
 use Rattle.model_steps.specs.SystemState.{SystemState}
 use Rattle.base_store.specs.{Store.StoreState, declared.store_error.StoreError.StoreError}
-use Rattle.echo_toss.specs.{PacketsIn.HoldsUnlessFailed, PacketsIn.cause_in, PacketsIn.packet_answer, PacketsIn.state_in, PacketsIn.stop_in, declared.fault.TossFault.TossFault, declared.step_error.StoppedToss.StoppedToss, declared.step_error.TossStepError.TossStepError, declared.tally.Tally.Tally, PacketSteps.CountsToss, PacketSteps.PacketStep}
+use Rattle.echo_toss.specs.{PacketsIn.HoldsUnlessFailed, PacketsIn.cause_in, PacketsIn.packet_answer, PacketsIn.state_in, PacketsIn.stop_in, declared.step_error.StoppedToss.StoppedToss, declared.step_error.TossStepError.TossStepError, declared.tally.Tally.Tally, PacketSteps.CountsToss, PacketSteps.PacketStep, PacketSteps.TossFault}
 use Rattle.echo_toss.specs.declared.step_error.TossStepError.TheVariants as toss
 use Rattle.cmd_store.specs.{Lines.tally_line, TossedPacket.ReportsPacket, TossedPacket.TossRun, TossedPacket.TossesPacketBy, TossedPacket.fault_of, NotedPacket.NotesPacket, Tossed.ReportsIn, Tossed.ReportsStop, Tossed.TossesNext, Tossed.run_at}
 

@@ -3,7 +3,7 @@ use Rattle.std.specs.Prelude.{◌≡◌, ℕ, ◌⊎◌, Bool, true, false, List
 use Rattle.echo_packet.specs.declared.limits.Limits.{Limits}
 use Rattle.cmd_status.specs.{Devices.Device, declared.fault.Fault.{Fault, TheVariants.{NotForUs, OutOfMemory, Packet, TossMemory}}}
 use Rattle.model_steps.specs.SystemState.{SystemState}
-use Rattle.echo_toss.specs.{declared.fault.TossCause.TossCause, declared.fault.TossFault.TossFault, declared.tally.Tally.Tally, PacketSteps.CountsToss, PacketSteps.PacketStep}
+use Rattle.echo_toss.specs.{declared.fault.TossCause.TossCause, declared.tally.Tally.Tally, PacketSteps.CountsToss, PacketSteps.PacketStep, PacketSteps.TossFault}
 use Rattle.echo_toss.specs.declared.fault.TossCause.TheVariants as stop
 use Rattle.cmd_store.specs.{NotedPacket.NotesPacket, Lines.tally_line}
 

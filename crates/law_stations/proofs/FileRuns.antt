@@ -3,7 +3,7 @@ use Rattle.std.proofs.Common.{Bool, ◌≡◌, ◌⊎◌, inl, inr, refl, sym, s
 use Rattle.cmd_status.specs.{Devices.Device, declared.fault.Fault.Fault, declared.fault.Fault.TheVariants.OutOfMemory}
 use Rattle.base_file.specs.Base.{Base}
 use Rattle.echo_links.specs.Links.{LinkFile}
-use Rattle.echo_toss.specs.{PacketsIn.state_in, declared.fault.TossFault.TossFault, declared.tally.Tally.Tally, PacketSteps.PacketStep}
+use Rattle.echo_toss.specs.{PacketsIn.state_in, declared.tally.Tally.Tally, PacketSteps.PacketStep, PacketSteps.TossFault}
 use Rattle.model_steps.specs.SystemState.{SystemState}
 use Rattle.cmd_store.specs.{Coming.Coming, Coming.Fails, Coming.Holds, Coming.Unknown, TossRuns.TossesEachBy, TossRuns.TossesFileBy, TossedPacket.ReportsPacket, TossedPacket.TossRun, TossedPacket.TossesPacketBy}
 use Rattle.law_stations.{specs.Commands.{TossesAll, itself}, proofs.Readings.{TossesFront, TossesPacketThere, TossesSo, tosses-so}}

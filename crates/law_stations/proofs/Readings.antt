@@ -3,8 +3,8 @@ use Rattle.std.proofs.Common.{◌≡◌, ◌⊎◌, inl, inr, sym, ◌∙◌, �
 use Rattle.std.specs.List.{AllByRecursion}
 use Rattle.echo_packet.specs.{declared.header.Header.Header, declared.limits.Limits.Limits, Header.header_bytes, Header.word, Message.AreMessages, Message.IsMessage, Message.Message, Message.messages_bytes, Packet.PacketOf}
 use Rattle.model_steps.specs.{SystemState.SystemState, Tossing.sender_of, Tossing.tossed}
-use Rattle.echo_toss.specs.PacketSteps.{BeginsWith, IsForUs, PacketStep, TossesAll, TossesPart, TossesSome}
-use Rattle.echo_toss.specs.declared.{fault.TossCause.TossCause, fault.TossFault.TossFault, tally.Tally.Tally}
+use Rattle.echo_toss.specs.PacketSteps.{BeginsWith, IsForUs, PacketStep, TossesAll, TossesPart, TossesSome, TossFault}
+use Rattle.echo_toss.specs.declared.{fault.TossCause.TossCause, tally.Tally.Tally}
 use Rattle.echo_toss.specs.declared.fault.TossCause.TheVariants as stop
 use Rattle.echo_toss.proofs.{Parsed.first_messages, Parsed.one_header, Parsed.one_list, WholePackets.where_failed as where-failed}
 
