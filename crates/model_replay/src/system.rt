@@ -65,7 +65,8 @@ impl System {
             serial,
             stamp,
         ) {
-            Ok(()) | Err(PostStepError::Refused(_)) => Ok(()),
+            Ok(()) => Ok(()),
+            Err(PostStepError::Refused(_)) => Ok(()),
             Err(PostStepError::Store(_)) => Err(AllocError),
         }
     }
