@@ -14,15 +14,6 @@ use Rattle.cmd_suppose.specs.Parts.{AreBothWays, AreGrouped, AreLabels, AreOther
 use Rattle.echo_net.proofs.{Drawings.links_held, Owned.before_back, Owned.in_order_from_sorted}
 use Rattle.echo_net.proofs.Orders.{address_order, address_total, at_place, before_is, earlier_less, not_before_itself, one_place}
 
--- parts without the first of the largest
-pub others_left : (parts others : List (List Address)) (k : ℕ) → (0 < length parts → IsLargestAt parts k) → k < length parts → others ≡ remove parts k → AreOthers parts others
-others_left [] others k largest within is = absurd (omega arith)
-others_left (part ∷ parts) others k largest within is = (k, largest (omega arith), is)
-
-pub no_others : (parts : List (List Address)) (k : ℕ) → (0 < length parts → IsLargestAt parts k) → (k < length parts → ⊥) → AreOthers parts parts
-no_others [] k largest past = refl
-no_others (part ∷ parts) k largest past = absurd (past (largest (omega arith)).within)
-
 -- links that both ends list
 pub both_held : (files : List LinkFile) (tag : List ℕ) (links both : List Link) → ((l : Link) → Contains links l ↔ IsTrue (lists files tag l.from l.to))
     → both ≡ filter (λ l. has_link links (back l)) links → AreBothWays (linked_both files tag) both
@@ -36,15 +27,6 @@ both_held files tag links both members is = record {
         (Among-filter_to (λ m. has_link links (back m)) l links (Among-from_Contains l links ((members l).1 one)) (links_held files tag links members (back l) ∙ other))),
   );
   back = λ a b h. let (one, other) = and_parts (lists files tag a b) (lists files tag b a) h in and_from (lists files tag b a) (lists files tag a b) other one;
-}
-
--- each carrier begins with its own label
-pub own_labels : (linked : Address → Address → Bool) (carriers : List Address) (labels : List ℕ) → length labels ≡ length carriers
-    → ((i : ℕ) → i < length carriers → get_or labels i 0 ≡ i) → AreLabels linked carriers labels
-own_labels linked carriers labels same own = record {
-  same_length = same;
-  not_after = λ i inside. (let is = own i inside in omega arith);
-  joined = λ i inside. ([], ap (system_at carriers) (sym (own i inside)));
 }
 
 module _ (linked : Address → Address → Bool) (back_linked : (a b : Address) → IsTrue (linked a b) → IsTrue (linked b a)) where
