@@ -67,12 +67,6 @@ impl Exported {
         self.to
     }
 
-    fn is_missing(&self) -> bool
-        ensures { result ≡ not self.now.came }
-    {
-        !self.came
-    }
-
     pub(crate) fn bytes(&self, alloc: Global) -> Result<Vec<u8>, AllocError>
         ensures { IfOk result (λ bytes. bytes.items ≡ self.now.bytes) }
     {
@@ -234,7 +228,7 @@ fn count_missing(packets: &[Exported]) -> usize
 {
     let mut count = 0;
     'packets: for packet in packets {
-        if packet.is_missing() {
+        if !packet.came {
             count += 1;
         }
     }
