@@ -1,7 +1,7 @@
 ghost use Rattle.std.specs.{Prelude.{◌≡◌, ◌++◌, ◌∷◌, [], ◌<◌, length, map, Bool, true, false, None, Some, OnOk}, List.All};
 ghost use Rattle.model_run.specs.{Run.Run, Run.after_event, Run.change, Run.destination, Run.nth, Event.run_event};
 ghost use Rattle.model_steps.specs.{declared.packet.Packet.Packet, SystemState.SystemState};
-ghost use Rattle.model_replay.specs.Worlds.{Fits, IsWorldOf, LeadsToFirst, ScanFits, own_addresses, after_posting, after_purge, after_scan, after_toss, arrived, encoded, made, scanned_world, with_change, world_after};
+ghost use Rattle.model_replay.specs.Worlds.{Fits, IsWorldOf, LeadsToFirst, ScanFits, own_addresses, after_posting, after_purge, after_toss, arrived, encoded, made, scanned_world, with_change, world_after};
 ghost use Rattle.model_replay.specs.Taken.{AreTaken};
 ghost use Rattle.model_replay.specs.Worlds as model;
 
