@@ -1,5 +1,5 @@
 -- A base file opened as a store.
-use Rattle.std.proofs.Common.{◌≡◌, ◌≤◌, ◌⊎◌, ◌∙◌, inl, inr, ⊎_elim, ℕ, Bool, false, List, Option, None, Some, Result, Ok, Err, ap, arith, refl, subst, sym}
+use Rattle.std.proofs.Common.{◌≡◌, ◌≤◌, ◌⊎◌, ◌∙◌, inl, inr, ⊎_elim, ℕ, Bool, false, List, Option, None, Some, Result, Ok, Err, ap, arith, subst, sym}
 use Rattle.std.specs.Prelude.{All, ◌≢◌, IfErr, IsSome}
 use Rattle.base_file.{specs.Base.Base, proofs.Loading.base_is}
 use Rattle.echo_filed.specs.Filed.{Filed}
@@ -8,7 +8,7 @@ use Rattle.echo_links.specs.Links.{LinkFile}
 use Rattle.cmd_status.specs.{Inputs.IsBaseGiven, declared.fault.Fault.Fault}
 use Rattle.station.proofs.Failures.{fails_wider, no_links_wider, not_locked, nothing_done}
 use Rattle.station.specs.{Faults.FailsAt, Links.AreLinks, Opening.IsNotOpened, Opening.IsOpenFor, Opening.IsOpened, Place.IsOfPlace, Place.KeepsElsewhere, Place.RepresentsOrWasLeft}
-use Rattle.station_bases.specs.{InFile.IsHeld, InFile.IsReadAs, InFile.IsWithinReach, InFile.RepresentsInFile, InFile.file_state, declared.held.Held.Held, declared.held.Held.TheVariants.Whole}
+use Rattle.station_bases.specs.{InFile.{IsHeld, IsReadAs, IsWithinReach, RepresentsInFile, file_state}, declared.held.Held.Held}
 use Rattle.station_bases.{proofs.Loaded.base_in, specs.Reading.{IsFileShut, IsSettled, IsShutFor, IsUnreadFor, file_place}}
 
 -- the base in the bytes of an existing file
@@ -26,22 +26,6 @@ one_given (Some bytes) a b one other =
 
 pub read_only : {S T : Type 0} (files : Files) (disk : DiskState) (path : List ℕ) (held : Held S T) → IsReadAs files disk path held → (b : Base) → RepresentsInFile path b files → IsHeld disk path held b
 read_only files disk path held read b represented = subst (λ (x : Base). IsHeld disk path held x) (one_given (files path) read.base b read.represented represented) read.is
-
--- the same after a step that changed nothing
-pub read_since : {S T : Type 0} (d0 d1 disk : DiskState) (path : List ℕ) (held : Held S T) → ChangesNothing d0 d1 → IsReadAs d1.seen disk path held → IsReadAs d0.seen disk path held
-read_since d0 d1 disk path held quiet read = record {
-  base = read.base;
-  represented = subst (λ (f : Option (List ℕ)). IsBaseGiven f read.base.messages read.base.cursor) (quiet.seen path) read.represented;
-  is = read.is;
-}
-
--- a base in memory
-pub read_whole : {S T : Type 0} (d0 d1 disk : DiskState) (path : List ℕ) (base : Base) → ChangesNothing d0 d1 → RepresentsInFile path base d1.seen → IsReadAs {S = S} {T = T} d0.seen disk path (Whole base)
-read_whole d0 d1 disk path base quiet represented = record {
-  base = base;
-  represented = subst (λ (f : Option (List ℕ)). IsBaseGiven f base.messages base.cursor) (quiet.seen path) represented;
-  is = refl;
-}
 
 quiet_elsewhere : (path : List ℕ) (d0 d1 : DiskState) → ChangesNothing d0 d1 → KeepsElsewhere (file_place path) d0 d1
 quiet_elsewhere path d0 d1 quiet = grind arith
