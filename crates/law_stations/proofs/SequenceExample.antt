@@ -39,7 +39,6 @@ if-none : (b : Bool) (bytes : List ℕ) → (b ≡ true → ⊥) → (if b then 
 if-none true bytes not = absurd (not refl)
 if-none false bytes not = refl
 
--- no packet is there
 no-packets : (bases : List Base) (i : ℕ) (links : List ℕ) (n : ℕ) (station : Station) (d : Disks) → IsFolderIn (example_place bases) [] i station (files_with links n no_packet) d
 no-packets bases i links n station d file says =
     let own = dotted file.system in
@@ -62,7 +61,6 @@ module _ (s : Story) where
   abbrev seats : List (Seat (List Base))
   seats = first_seat s ∷ (second_seat s ∷ [])
 
-  -- each station has a disk
   disk-of : (i : ℕ) (seat : Seat (List Base)) → nth i seats ≡ Some seat → seat.disk ≡ i
   disk-of zero seat there = ap (λ (x : Seat (List Base)). x.disk) (sym (some_same there))
   disk-of (suc zero) seat there = ap (λ (x : Seat (List Base)). x.disk) (sym (some_same there))
