@@ -3,7 +3,7 @@ use Rattle.std.specs.Prelude.{◌≡◌, ◌<◌, ℕ, zero, suc, ◌+◌, ◌&&
 use Rattle.echo_filed.specs.{Filed.Filed, Stubs.is_stub}
 use Rattle.echo_links.specs.Links.{upper}
 use Rattle.echo_text.specs.Echo.{msgid_of}
-use Rattle.cmd_status.specs.{declared.fault.Fault.Fault, declared.status.Status.Status, Ended.IsOutOfMemory}
+use Rattle.cmd_status.specs.{declared.status.Status.Status, Ended.IsOutOfMemory}
 use Rattle.base_file.specs.Base.{Base}
 use Rattle.base_folder.specs.Fetching.{IsUnread}
 use Rattle.echo_stored.specs.StoredMessage.{stored_bytes}

@@ -76,6 +76,7 @@ pub(crate) fn post_as<'a, T: Store, W: Sink>(
     leave_posted(alloc, words.tag, serial, links, store, out)
 }
 
+#[tactic(auto, using(std::proofs::lemmas::Result::err_from_is_err_and, cmd_status::proofs::Lines::alone, base_store::proofs::Runs::no_look, crate::proofs::Commits::looks_may, crate::proofs::Printed::prints_same))]
 fn leave_posted<'a, T: Store, W: Sink>(
     alloc: Global,
     tag: &[u8],

@@ -44,6 +44,7 @@ impl<'a> StoreCommand<'a> for Purge {
     }
 }
 
+#[tactic(auto, using(std::proofs::lemmas::Result::err_from_is_err_and, base_store::proofs::Runs::no_look, echo_toss::proofs::Bounds::handed_many, crate::proofs::Commits::caused_after, crate::proofs::Commits::committed_where, crate::proofs::Commits::looks_may, crate::proofs::Commits::ready_where, crate::proofs::Bounded::may_then_nothing, crate::proofs::Purges::purge_may, crate::proofs::Purges::purge_printed))]
 fn purge_on<'a, T: PurgedStore, W: Sink>(
     alloc: Global,
     store: &mut T,

@@ -10,6 +10,7 @@ use echo_toss::CountedPacket;
 use std::alloc::Global;
 
 /// Prints a line for each counted packet.
+#[tactic(auto, using(std::proofs::lemmas::Result::err_from_is_err_and, cmd_status::proofs::Lines::alone))]
 pub fn print_counted<'a, W: Sink>(
     alloc: Global,
     packets: &[CountedPacket],

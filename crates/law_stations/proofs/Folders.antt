@@ -1,5 +1,5 @@
 -- A station's folder of packets stays as the net has it.
-use Rattle.std.proofs.Common.{◌≡◌, ◌≢◌, ◌⊎◌, inl, inr, ⊎_elim, ◌∙◌, refl, sym, subst, ap, append-nil, append_assoc, arith, ℕ, zero, suc, Bool, true, false, List, [], ◌∷◌, ◌++◌, codes, length, map, take, Option, Some, None, Ok}
+use Rattle.std.proofs.Common.{◌≡◌, ◌≢◌, inl, inr, ◌∙◌, refl, sym, subst, ap, append-nil, append_assoc, ℕ, zero, suc, Bool, true, false, List, [], ◌∷◌, ◌++◌, codes, length, map, take, Option, Some, None, Ok}
 use Rattle.base_file.specs.Base.{Base}
 use Rattle.base_store.specs.Store.{purged}
 use Rattle.cmd_store.specs.declared.drafting.NewMessage.{NewMessage}

@@ -19,7 +19,6 @@ module _ {D Kept : Type 0} (state : D → DiskState) (place : Kept → Place) (s
   elsewhere : LeavesElsewhere (reach place seat) (state old) (state whole)
   elsewhere = reaches-by (place seat.kept) (reach place seat) (state old) (state whole) (λ m own. inl own) does.elsewhere
 
-  -- the folder of packets
   led-folder : (next : Disks) → MayLeadBy (IsAsked asked was.base) i d next → (is : Station) → nth i next.net.stations ≡ Some is → (c : Files) → IsFolderIn (place seat.kept) seat.outbound i was c d
       → IsFolderIn (place seat.kept) seat.outbound i is c next
   led-folder next (inl same) is there c folder =

@@ -14,7 +14,6 @@ use Rattle.law_stations.specs.{Agreement.Agrees, Agreement.AreTossesOf, Agreemen
 use Rattle.law_stations.proofs.{FileRuns.IsPartly, FileRuns.TossedFiles, FileRuns.tossed-all, FileRuns.wholes, Pairs.change-same, Pairs.change-twice, Pairs.paired-length, Pairs.paired-nth, Places.addresses-stay, Places.place-of, Putting.puts-agree, Readings.TossesFront, Readings.front-packet, Readings.one-packet, Systems.file-fits, Systems.one-file, Tossed.Takes, Tossed.takes-front, Unpurged.AsFiledAt, Unpurged.change-as_filed, Unpurged.tossing-as_filed}
 use Rattle.model_run.proofs.HarmLists.{nth-changed as changed-there}
 
--- the base of a state
 abbrev base_in : SystemState → Base
 base_in state = record { messages = state.base; cursor = state.cursor }
 

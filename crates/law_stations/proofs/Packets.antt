@@ -90,7 +90,6 @@ unfolding packet_to
 packet-fits file stamp waiting address fits to all bytes =
     copies-packet file stamp address fits to (filter (goes_to file address) waiting) (all-filter IsFiled (goes_to file address) waiting all) bytes
 
--- all packets
 packets-fit : (file : LinkFile) (stamp : Stamp) (waiting : List Filed) (n : ℕ) → IsFile file → AllByRecursion IsFiled waiting → (addresses : List Address)
     → AllByRecursion IsAddress addresses → (let ps = map (packet_to file stamp waiting) addresses in
     AllByRecursion (λ (f : PacketFile). AreBytes f.bytes) (map (file_sent n) ps) → Paired IsPacketFile (map bytes_of (map (file_sent n) ps)) ps)

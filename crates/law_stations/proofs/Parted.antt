@@ -16,7 +16,6 @@ pub record Parted (IsAt IsStaged : PacketFile → Type 0) (i cursor : ℕ) (befo
   pub each : (p : PacketFile) → Among p ps → (IsAt p × Among p named) ⊎ (IsStaged p × Among p waiting)
 
 module _ (IsAt IsStaged : PacketFile → Type 0) (i cursor most : ℕ) where
-  -- there are none
   abbrev no-more : (before : List StagingFile) (net : Net) → Parted IsAt IsStaged i cursor before net []
   no-more before net = record {
     steps = 0;
@@ -31,7 +30,6 @@ module _ (IsAt IsStaged : PacketFile → Type 0) (i cursor most : ℕ) where
     each = λ p among. absurd among;
   }
 
-  -- one packet gets its name
   abbrev one-more : (p : PacketFile) (ps : List PacketFile) (before : List StagingFile) (net : Net) → HasCursor net i most → cursor < most → IsAt p
       → Parted IsAt IsStaged i cursor before (with_packet net p.bytes) ps → Parted IsAt IsStaged i cursor before net (p ∷ ps)
   one-more p ps before net has less at rest =

@@ -66,7 +66,6 @@ module _ (place : Place) (Reads : LinkFile → Type 0) (IsShut Stops : Fault →
       (known : (file : LinkFile) (files : List Coming) (base next : Base) → Tosses honest noting limits device file files base next → TossesAll files file base next)
       (answered : (file : LinkFile) (files left : List Coming) (base next : Base) (answer : Option Fault) → TossesTo honest noting limits device file base files left out out_now (Ok answer) next
       → (all : TossesAll files file base next) × (all.stopped ≡ answer) × (all.left ≡ left)) (files left : List Coming) (result : Result (Option Fault) CommandError) where
-    -- a toss that ran
     abbrev TossRuns : Type 0
     TossRuns =
         RunsIn (λ file base. TossesIn honest noting limits device file base files left out out_now result) (λ file base. TossesTo honest noting limits device file base files left out out_now result) (λ file. Tosses honest noting limits device file files)

@@ -28,10 +28,6 @@ module _ (place : Place) (outbound links : List ℕ) (i : ℕ) (d : Disks) (old 
     put-so state own packets (Ok files) put = absurd (subst (λ (r : Result (Unit {0}) ScanError). IfErr r (IsOfPlacing failed (IsTaken place.is_own outbound own at.shows.station.base.cursor put.found files put.opened) (most < at.shows.station.base.cursor))) is put.why)
     put-so state own packets (Err why) put = as-before put.shown (λ c left. (put.lasts c left).2.represented)
 
-    abbrev is-shut-by : ScanError → Type 0
-    is-shut-by (Command (Met why)) = IsShut why
-    is-shut-by other = Unit {0}
-
     not-run : (out out_now : Output) (stopped : Result (Unit {0}) CommandError) → result ≡ as_scan stopped → IsNotRun place IsShut old new out out_now stopped ⊎ IsStopped place Stops old new out out_now stopped
         → IsAsBefore place links i d new ⊎ IsShut fault
     not-run out out_now stopped h1 h2 = grind (arith, as-before)

@@ -1,5 +1,5 @@
 -- A net goes on by a scan, and by a toss that ended well.
-use Rattle.std.proofs.Common.{◌≡◌, ◌⊎◌, ◌∙◌, ◌++◌, inl, inr, ⊎_elim, refl, sym, subst, ap, append_assoc, ℕ, List, Some, None, Result, arith}
+use Rattle.std.proofs.Common.{◌≡◌, ◌⊎◌, ◌∙◌, inl, inr, ⊎_elim, refl, sym, subst, ap, append_assoc, ℕ, List, Some, None, Result, arith}
 use Rattle.disk_io.specs.Disk.{DiskState, Files}
 use Rattle.model_steps.specs.declared.stamp.Stamp.{Stamp}
 use Rattle.station.specs.Place.{Place}

@@ -8,7 +8,7 @@ use Rattle.disk_io.specs.Disk.{DiskState, Files}
 use Rattle.model_run.specs.Run.{nth}
 use Rattle.model_steps.specs.{PacketFiles.PacketFile, declared.stamp.Stamp.Stamp}
 use Rattle.station.specs.Place.{Place}
-use Rattle.law_stations.specs.{Commands.Post, Commands.Posts, Commands.Scan, Commands.Scans, Commands.Toss, Commands.Tosses, Disks.Disks, Nets.Net, Nets.empty_base, Nets.first_net, OverCrashes.disks_of}
+use Rattle.law_stations.specs.{Commands.{Post, Posts, Scan, Scans, Toss, Tosses}, Nets.{Net, empty_base, first_net}, OverCrashes.disks_of}
 use Rattle.law_stations.specs.{Seats.AreNeighbours, Seats.AreSeated, Seats.Seat, Steps.Crashes, Steps.Ends, Steps.GoesOn, Steps.IsCut, Steps.Step}
 
 -- The effects on a net: a posting at the first station, a scan there, which makes one packet, and a toss of it at the second.

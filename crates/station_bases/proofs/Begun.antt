@@ -9,7 +9,8 @@ use Rattle.base_folder_store.specs.Held.{RepresentsBase, RepresentsBaseAlone, Re
 use Rattle.echo_links.specs.Links.{LinkFile}
 use Rattle.cmd_status.specs.declared.fault.Fault.{Fault}
 use Rattle.base_store.specs.Store.{StoreState}
-use Rattle.station.proofs.Failures.{fails_wider, no_links_wider, not_locked, nothing_done}
+use Rattle.base_store.proofs.Runs.{quiet_disk}
+use Rattle.station.proofs.Failures.{fails_wider, no_links_wider, not_locked}
 use Rattle.station.specs.{Faults.FailsAt, Opening.IsNotOpened, Opening.IsOpened, Place.KeepsElsewhere, Place.RepresentsOrWasLeft}
 
 module _ (keyed : ℕ → ℕ → List ℕ → ℕ) (path : List ℕ) (d0 : DiskState) where
@@ -58,7 +59,7 @@ module _ (keyed : ℕ → ℕ → List ℕ → ℕ) (path : List ℕ) (d0 : Disk
   pub folder_locked_out : {T : Type 0} (links base : List ℕ) (strange : Bool) (P Q F : Type 0) (result : Result T Fault) → (P → F) → (Q → F) → IfErr result (λ fault. FailsAt links P fault ⊎ FailsAt base Q fault)
       → IfErr result (IsFolderShut links base path strange F d0 d0)
   folder_locked_out links base strange P Q F (Ok done) first second fails = tt
-  folder_locked_out links base strange P Q F (Err fault) first second fails = inl (record { same = nothing_done d0; cause = not_locked d0 links base P Q F fault first second fails })
+  folder_locked_out links base strange P Q F (Err fault) first second fails = inl (record { same = quiet_disk d0; cause = not_locked d0 links base P Q F fault first second fails })
 
   pub is_not_opened : (d1 : DiskState) (links base : List ℕ) (strange : Bool) (failed : Type 0) (fault : Fault) → Honestly d1 (IsFolderShut links base path strange failed d0 d1 fault)
       → Honestly d1 ((b : Base) → RepresentsBase keyed path b d0.seen → LeavesOnly d0 d1 (RepresentsBaseOrWasLeft keyed path d0 b)) → KeepsOutside path d0 d1

@@ -19,7 +19,6 @@ ended_same path bodies a c same h6 = grind (arith, log_in, messages_in, keys_in)
 represented_same : (path : List ℕ) (base : BaseBytes) (a c : Files) → ((m : List ℕ) → IsIn path m → c m ≡ a m) → Represents path base a → Represents path base c
 represented_same path base a c same was = grind (arith, messages_in, keys_in, log_in, ended_same, AreThere-same, RecordsBase-same)
 
--- the paths outside the folder
 abbrev Outside : List ℕ → List ℕ → Type 0
 Outside path m = IsIn path m → ⊥
 

@@ -12,7 +12,6 @@ module _ {S T : Type 0} (path own : List ℕ) (held : Held S T) (place : ℕ) (u
   pub settled : (d : DiskState) → AreSettledByOwn (file_state d path own held place unread)
   settled d base before after same represented = subst (λ (f : Option (List ℕ)). IsBaseGiven f base.messages base.cursor) (sym (same path (inr refl))) represented
 
-  -- the paths that do not belong to the file
   abbrev Others : List ℕ → Type 0
   Others m = IsOfFile path own m → ⊥
 

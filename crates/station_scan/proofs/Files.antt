@@ -62,7 +62,6 @@ module _ (to : Sending) (planned : AreRoutes to) (base : Base) where
 -- ---- packets of all messages
 
 module _ (to : Sending) (planned : AreRoutes to) (base : Base) (packets : List Outgoing) (for : AreFor to (is_made (all_sent to base)) packets) where
-  -- a packet as a file
   abbrev sends : Outgoing → PacketFile
   sends p = file_to to base p.to
 

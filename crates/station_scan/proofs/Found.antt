@@ -21,7 +21,6 @@ pairs_more {X} R xs y pairs all = λ k j z kj hi.
     subst (λ (x : X). R x (get_or all_xs j z)) (sym (get_or_append_left xs (y ∷ []) z k first)) (subst (λ (x : X). R (get_or xs k z) x) last (all k z first)))
     (cases_lt j (length xs))
 
--- the list of one
 one_all : {X : Type 0} (P : X → Type 0) (x : X) → P x → All P (x ∷ [])
 one_all {X} P x is = λ k d lt. let first : k ≡ 0 = omega arith in subst (λ (n : ℕ). P (get_or (x ∷ []) n d)) (sym first) is
 

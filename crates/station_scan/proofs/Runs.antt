@@ -31,7 +31,6 @@ module _ (Own Own2 : List ℕ → Type 0) (out : (m : List ℕ) → Own2 m → O
   fit_as : (files : List PacketFile) → AreFit Own2 outbound own files → ((m : List ℕ) → Own m → Own2 m) → AreFit Own outbound own files
   fit_as files fit into = grind arith
 
-  -- the two paths of a packet
   taken_as : (cursor : ℕ) (found : List Left) (files : List PacketFile) (seen : Files) → ((m : List ℕ) → Own m → Own2 m) → IsTaken Own outbound own cursor found files seen → IsTaken Own2 outbound own cursor found files seen
   taken_as cursor found files seen into (inl left) =
       inl (λ free. left (λ name to. free name (record { plain = to.plain; off = record { path = λ o. to.off.path (out _ o); staging = λ o. to.off.staging (out _ o) }; there = to.there })))
@@ -103,7 +102,6 @@ module _ {D : Type 0} (state : D → DiskState) (place : Place) (d0 d2 : DiskSta
           (then_run d0 s1.disk s2.disk May Prepares_on (weaker_run d0 s1.disk (RepresentsOrWasLeft place d0 base) May (begun.run base represented) opened_prepares) crash (λ c on. inr (prepared_on c on)))
           quiet
 
-    -- the report of a scan that stopped
     stopped_reported : (files : List PacketFile) (some failed : Type 0) (why : CommandError) (result : Result (Unit {0}) ScanError) → (some → failed) → ReportsStop some outbound own files s1.disk.seen s2.disk.seen why result
         → ReportsStop failed outbound own files s1.disk.seen d2.seen why result
     stopped_reported files some failed why result wider (inl (is, gone)) = inl (is, λ m at. ⊎_elim (λ none. inl (quiet.seen m ∙ none)) (λ same. inr (quiet.seen m ∙ same)) (gone m at))

@@ -178,7 +178,6 @@ module _ {D : Type 0} (state : D → DiskState) (Own : List ℕ → Type 0) (to 
           tried = inr (inl (sym many ∙ none));
         }
 
-    -- they were ended and published
     abbrev content : Outgoing → List ℕ
     content = for_address (content_of to base)
 
@@ -224,7 +223,6 @@ module _ {D : Type 0} (state : D → DiskState) (Own : List ℕ → Type 0) (to 
           )) with.either;
     })
 
-    -- what is left of them
     back : IsSameStore s1 s2 → (b : Base) (c : Files) → s2.represented b c → s0.represented b c
     back same b c represented = (passed.used.same.represented b c).0 ((same.represented b c).0 represented)
 

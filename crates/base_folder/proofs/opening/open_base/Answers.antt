@@ -1,4 +1,4 @@
-use Rattle.std.proofs.Common.{◌∙◌, ap, sym, arith}
+use Rattle.std.proofs.Common.{◌∙◌, ap, sym}
 use Rattle.base_log.specs.declared.log.End.{End}
 use Rattle.base_folder.proofs.{Openings.log_since, Openings.looked_only, Openings.opened_holds, Openings.opened_only, Wrongs.sound_by}
 use Rattle.base_folder.proofs.opening.open_base.Goals as goal

@@ -1,4 +1,4 @@
-use Rattle.std.{proofs.Common.{◌≡◌, ℕ, List, refl, arith}, specs.{Prelude.Vec, declared.alloc.Global.Global}}
+use Rattle.std.{proofs.Common.{◌≡◌, ℕ, refl}, specs.{Prelude.Vec, declared.alloc.Global.Global}}
 use Rattle.base_store.proofs.Runs.{quiet_disk}
 use Rattle.echo_filed.specs.{Stored.stored_bytes, declared.stored.Version.TheVariants.Second}
 use Rattle.base_folder_store.{specs.{Answers.IsStoredOf, declared.extent.Extent.Extent}, proofs.{Causes.answers_give, Looked.seat_stored}}
