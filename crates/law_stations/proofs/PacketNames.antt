@@ -1,19 +1,17 @@
 -- Files under packets' names while the packets of earlier scans get theirs.
 use Rattle.std.proofs.Common.{◌≡◌, ◌≢◌, ◌⊎◌, inl, inr, ⊎_elim, ◌∙◌, ◌<◌, ◌≤◌, ◌+◌, ◌-◌, ◌^◌, refl, sym, subst, ap, ℕ, zero, suc, Bool, true, false, List, [], ◌∷◌, ◌++◌, append-nil, append_assoc, arith, codes, drop, get_or, length, length-append, map, Option, Some, None}
-use Rattle.std.proofs.lemmas.{Bool.{cases_lt, cases_order}, Fmt.{decimal_injective, decimal_is_IsNumeral}, List.{append_cancel_left, append_cancel_right, get_or-append-add, get_or_append_left}, Str.Parse.digit_at}
-use Rattle.std.proofs.{Math.Seq.drop-append_seam, lemmas.List.Elements.All-contains}
-use Rattle.std.specs.{Fmt.decimal, Prelude.{All, Contains, IsSome}, Str.Parse.AllDigits}
-use Rattle.disk_io.specs.Disk.{DiskState, Files}
-use Rattle.disk_atomic.specs.{Finishing.EndsAs, Finishing.IsOfLeft, ListStaged.IsNameByte, ListStaged.IsNumbered, StagingPaths.staging_path, declared.finishing.Left.Left}
-use Rattle.model_graph.{specs.Walk.Among, proofs.Members.{Among-append_cases, Among-append_left, Among-append_right, Among-from_Contains}}
-use Rattle.model_run.proofs.Targets.{none_some, some_same}
-use Rattle.model_steps.specs.{PacketFiles.PacketFile, declared.packet.Packet.Packet}
-use Rattle.cmd_store.specs.{Lines.named_receiver, PacketLines.file_sent}
-use Rattle.station_scan.proofs.Lists.{among as one_of}
-use Rattle.station_scan.specs.{Left.{IsEnded, IsLeftOf, IsToFind}, Scanning.{CommitsScan, PreparesScan}}
-use Rattle.station_scan.specs.{Publishing.IsOnDisk, Sending.IsFreeAt, Sending.IsStagingOfPacket, Sending.IsWholeAlone, Sends.IsOfThese}
-use Rattle.law_stations.specs.{Disks.Disks, Disks.HasCursor, Disks.StagingFile, Disks.naming, Nets.Net, PacketNames.AreOfNet, PacketNames.ArePathsOnDisk, PacketNames.IsPacketName, PacketNames.IsToName, Stopping.EndsOne, Stopping.EndsSome, Stopping.HasNoneStaged}
-use Rattle.law_stations.proofs.Ended.{cursor-stays}
+use Rattle.std.proofs.lemmas.{Bool.{cases_lt, cases_order}, Fmt.{decimal_injective, decimal_is_IsNumeral}}
+use Rattle.std.proofs.lemmas.{List.{append_cancel_left, append_cancel_right, get_or-append-add, get_or_append_left}, Str.Parse.digit_at}
+use Rattle.std.{proofs.{Math.Seq.drop-append_seam, lemmas.List.Elements.All-contains}, specs.{Fmt.decimal, Prelude.{All, Contains, IsSome}}}
+use Rattle.{std.specs.Str.Parse.AllDigits, disk_io.specs.Disk.{DiskState, Files}, disk_atomic.specs.Finishing.{EndsAs, IsOfLeft}}
+use Rattle.{disk_atomic.specs.{ListStaged.{IsNameByte, IsNumbered}, StagingPaths.staging_path, declared.finishing.Left.Left}, model_graph.specs.Walk.Among}
+use Rattle.model_graph.proofs.Members.{Among-append_cases, Among-append_left, Among-append_right, Among-from_Contains}
+use Rattle.{model_run.proofs.Targets.{none_some, some_same}, model_steps.specs.{PacketFiles.PacketFile, declared.packet.Packet.Packet}}
+use Rattle.{cmd_store.specs.{Lines.named_receiver, PacketLines.file_sent}, station_scan.proofs.Lists.among as one_of}
+use Rattle.station_scan.specs.{Left.{IsEnded, IsLeftOf, IsToFind}, Scanning.{CommitsScan, PreparesScan}, Publishing.IsOnDisk}
+use Rattle.station_scan.specs.{Sending.{IsFreeAt, IsStagingOfPacket, IsWholeAlone}, Sends.IsOfThese}
+use Rattle.law_stations.specs.{Disks.{Disks, HasCursor, StagingFile, naming}, Nets.Net, PacketNames.{AreOfNet, ArePathsOnDisk, IsPacketName, IsToName}}
+use Rattle.law_stations.{specs.Stopping.{EndsOne, EndsSome, HasNoneStaged}, proofs.Ended.cursor-stays}
 
 -- ---- paths
 

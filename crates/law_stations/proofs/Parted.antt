@@ -1,8 +1,7 @@
 -- Some of the waiting packets are at their paths: these get their names.
-use Rattle.std.{proofs.Common.{◌≡◌, ◌⊎◌, inl, inr, refl, subst, sym, ℕ, suc, ◌<◌, append-nil, append_assoc, List, [], ◌∷◌, ◌++◌, map}, specs.List.AllByRecursion}
-use Rattle.model_graph.specs.Walk.{Among}
-use Rattle.model_steps.specs.PacketFiles.{PacketFile}
-use Rattle.law_stations.specs.{Nets.Net, Nets.bytes_of, Disks.StagingFile, Disks.HasCursor, Disks.with_packet, Stopping.EndsSome, Stopping.staging_of}
+use Rattle.std.proofs.Common.{◌≡◌, ◌⊎◌, inl, inr, refl, subst, sym, ℕ, suc, ◌<◌, append-nil, append_assoc, List, [], ◌∷◌, ◌++◌, map}
+use Rattle.{std.specs.List.AllByRecursion, model_graph.specs.Walk.Among, model_steps.specs.PacketFiles.PacketFile, law_stations.specs.Nets.{Net, bytes_of}}
+use Rattle.law_stations.specs.{Disks.{StagingFile, HasCursor, with_packet}, Stopping.{EndsSome, staging_of}}
 use Rattle.law_stations.proofs.Whole.{disks_with, gets-name, with_packets}
 
 -- Of the packets that wait after other files, those at their paths get their names.

@@ -1,13 +1,11 @@
 -- A scan that met a fault leaves the station unchanged.
-use Rattle.std.{proofs.Common.{◌≡◌, ◌<◌, ◌⊎◌, ◌∙◌, subst, ℕ, List, Result, Ok, Err, arith}, specs.Prelude.IfErr}
-use Rattle.disk_io.specs.Disk.{DiskState, Files}
-use Rattle.echo_links.specs.Links.{LinkFile}
-use Rattle.cmd_status.specs.{declared.fault.Fault.Fault, Devices.Output}
-use Rattle.model_steps.specs.{PacketFiles.PacketFile, declared.stamp.Stamp.Stamp}
-use Rattle.cmd_store.specs.declared.command_error.CommandError.{CommandError, TheVariants.Met}
-use Rattle.station.specs.{Place.Place, Running.IsNotRun, Running.IsStopped}
-use Rattle.station_scan.specs.{Publishing.UnchangedExcept, Scanning.IsPutAs, Scanning.IsTaken, Scanning.IsTouched, Scanning.ScansIn, Stops.IsOfPlacing, Stops.as_scan, Stops.most, declared.scan_error.ScanError.ScanError, declared.scan_error.ScanError.TheVariants.Command}
-use Rattle.law_stations.specs.{Disks.Disks, OnDisks.IsAsBefore, OnDisks.IsLinkedOn, OnDisks.IsStationAt, OnDisks.ShowsStation, Scans.StaysWhereScanMet}
+use Rattle.{std.{proofs.Common.{◌≡◌, ◌<◌, ◌⊎◌, ◌∙◌, subst, ℕ, List, Result, Ok, Err, arith}, specs.Prelude.IfErr}, disk_io.specs.Disk.{DiskState, Files}}
+use Rattle.{echo_links.specs.Links.LinkFile, cmd_status.specs.{declared.fault.Fault.Fault, Devices.Output}, model_steps.specs.PacketFiles.PacketFile}
+use Rattle.{model_steps.specs.declared.stamp.Stamp.Stamp, cmd_store.specs.declared.command_error.CommandError.{CommandError, TheVariants.Met}}
+use Rattle.{station.specs.{Place.Place, Running.{IsNotRun, IsStopped}}, station_scan.specs.Publishing.UnchangedExcept}
+use Rattle.station_scan.specs.{Scanning.{IsPutAs, IsTaken, IsTouched, ScansIn}, Stops.{IsOfPlacing, as_scan, most}, declared.scan_error.ScanError.ScanError}
+use Rattle.{station_scan.specs.declared.scan_error.ScanError.TheVariants.Command, law_stations.specs.Disks.Disks}
+use Rattle.law_stations.specs.{OnDisks.{IsAsBefore, IsLinkedOn, IsStationAt, ShowsStation}, Scans.StaysWhereScanMet}
 
 module _ (place : Place) (outbound links : List ℕ) (i : ℕ) (d : Disks) (old new : DiskState) (at : IsStationAt place links i old d) (kept : UnchangedExcept (IsTouched place.is_own outbound) old new)
     (away : IsTouched place.is_own outbound links → ⊥) where

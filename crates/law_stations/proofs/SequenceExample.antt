@@ -1,17 +1,14 @@
 -- The example of a sequence.
 use Rattle.std.proofs.Common.{◌≡◌, inl, inr, refl, subst, sym, ap, ◌∙◌, ℕ, ◌<◌, ◌≤◌, zero, suc, true, false, List, [], ◌∷◌, ◌++◌, codes, length, length-append, map, None, Some, arith}
-use Rattle.std.specs.{Prelude.Bool, Prelude.bytes_eq, Prelude.if◌then◌else◌, Cmp.Lexicographic.bytes_decides}
-use Rattle.base_file.specs.Base.{Base}
-use Rattle.base_store.specs.Store.{all_scanned}
-use Rattle.disk_io.specs.Disk.{Files}
-use Rattle.disk_atomic.specs.StagingPaths.{dotted, staging_path}
-use Rattle.model_graph.{specs.Walk.Among, proofs.Members.Among-append_right}
+use Rattle.{std.specs.{Prelude.{Bool, bytes_eq, if◌then◌else◌}, Cmp.Lexicographic.bytes_decides}, base_file.specs.Base.Base, base_store.specs.Store.all_scanned}
+use Rattle.{disk_io.specs.Disk.Files, disk_atomic.specs.StagingPaths.{dotted, staging_path}, model_graph.{specs.Walk.Among, proofs.Members.Among-append_right}}
 use Rattle.model_run.{specs.Run.{change, nth}, proofs.{HarmLists.nth-changed as changed-there, Lists.Among-map_to, Targets.{none_some, some_same}}}
-use Rattle.model_steps.specs.{PacketFiles.PacketFile, Scanning.scanned}
-use Rattle.law_stations.specs.{Commands.{Post, Scan, Toss}, Disks.Disks, Nets.{Net, Station, bytes_of, first_net, new_station, with_base}, OverCrashes.disks_of, OnDisks.LeavesElsewhere}
-use Rattle.law_stations.specs.{PacketNames.{IsFolderIn, IsPacketName}, Seats.{AreNeighbours, IsSeated, IsShared, RepresentsSeat, Seat, reach}, Steps.{HasEnded, WasCut}}
+use Rattle.{model_steps.specs.{PacketFiles.PacketFile, Scanning.scanned}, law_stations.specs.{Commands.{Post, Scan, Toss}, Disks.Disks}}
+use Rattle.law_stations.specs.{Nets.{Net, Station, bytes_of, first_net, new_station, with_base}, OverCrashes.disks_of, OnDisks.LeavesElsewhere}
+use Rattle.law_stations.specs.{PacketNames.{IsFolderIn, IsPacketName}, Seats.{AreNeighbours, IsSeated, IsShared, RepresentsSeat, Seat, reach}}
+use Rattle.law_stations.specs.Steps.{HasEnded, WasCut}
 use Rattle.law_stations.specs.SequenceExample.{ExampleDisk, Ran, Rests, Story, StoryGoesOn, base_path, example_disks, example_place, example_state, files_with, first_seat, link_path, no_packet, only_packet, second_seat}
-use Rattle.law_stations.proofs.{Elsewhere.change-other, Moving.scans-less, PacketNames.AreNumbered, PacketNames.are-numbered, PacketNames.long, PacketNames.one-number, Whole.scan-far}
+use Rattle.law_stations.proofs.{Elsewhere.change-other, Moving.scans-less, PacketNames.{AreNumbered, are-numbered, long, one-number}, Whole.scan-far}
 
 outside : link_path ≡ base_path → ⊥
 outside is = absurd (omega (arith, ap length is))

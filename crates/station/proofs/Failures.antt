@@ -1,8 +1,7 @@
 -- A device that failed.
-use Rattle.std.proofs.{Common.{◌≤◌, ◌⊎◌, inl, inr, ⊎_elim, ℕ, List, refl, arith}, lemmas.Bool.cases_lt}
-use Rattle.disk_io.{specs.{Device.Failed, Disk.DiskState}, proofs.Moments.no_call}
-use Rattle.cmd_status.specs.declared.fault.Fault.{Fault}
-use Rattle.station.specs.{Faults.FailsAt, Links.NoLinks, Opening.IsNotOpened, Place.Place}
+use Rattle.{std.proofs.{Common.{◌≤◌, ◌⊎◌, inl, inr, ⊎_elim, ℕ, List, refl, arith}, lemmas.Bool.cases_lt}, disk_io.specs.{Device.Failed, Disk.DiskState}}
+use Rattle.{disk_io.proofs.Moments.no_call, cmd_status.specs.declared.fault.Fault.Fault, station.specs.{Faults.FailsAt, Links.NoLinks, Opening.IsNotOpened}}
+use Rattle.station.specs.Place.{Place}
 
 -- a failure in a part of a run is one in the run
 pub failed_wider : (a b c d : ℕ) → a ≤ b → c ≤ d → Failed b c → Failed a d

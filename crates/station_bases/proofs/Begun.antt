@@ -1,17 +1,12 @@
 -- A folder that was begun, as an open station.
-use Rattle.std.{proofs.Common.{◌≤◌, ◌⊎◌, ℕ, Bool, List, Result, Ok, Err, ⊎_elim, inl, inr}, specs.Prelude.IfErr}
-use Rattle.base_file.specs.Base.{Base}
-use Rattle.disk_io.{specs.{Disk.{DiskState, Honestly}, Runs.{ChangesNothing, LeavesOnly}}, proofs.Moments.weaker_run}
-use Rattle.base_log.{proofs.Paths.not_own, specs.Moments.KeepsOutside}
-use Rattle.station_bases.specs.{Opening.IsBegun, Opening.IsLockedOut, Opening.IsOfFolder, Opening.IsShut, InFolder.IsFolderShut, InFolder.IsOwnLinks, InFolder.folder_place}
-use Rattle.base_folder.specs.Wrong.{IsSound}
-use Rattle.base_folder_store.specs.Held.{RepresentsBase, RepresentsBaseAlone, RepresentsBaseOrWasLeft}
-use Rattle.echo_links.specs.Links.{LinkFile}
-use Rattle.cmd_status.specs.declared.fault.Fault.{Fault}
-use Rattle.base_store.specs.Store.{StoreState}
-use Rattle.base_store.proofs.Runs.{quiet_disk}
-use Rattle.station.proofs.Failures.{fails_wider, no_links_wider, not_locked}
-use Rattle.station.specs.{Faults.FailsAt, Opening.IsNotOpened, Opening.IsOpened, Place.KeepsElsewhere, Place.RepresentsOrWasLeft}
+use Rattle.{std.{proofs.Common.{◌≤◌, ◌⊎◌, ℕ, Bool, List, Result, Ok, Err, ⊎_elim, inl, inr}, specs.Prelude.IfErr}, base_file.specs.Base.Base}
+use Rattle.{disk_io.{specs.{Disk.{DiskState, Honestly}, Runs.{ChangesNothing, LeavesOnly}}, proofs.Moments.weaker_run}, base_log.proofs.Paths.not_own}
+use Rattle.{base_log.specs.Moments.KeepsOutside, station_bases.specs.Opening.{IsBegun, IsLockedOut, IsOfFolder, IsShut}}
+use Rattle.{station_bases.specs.InFolder.{IsFolderShut, IsOwnLinks, folder_place}, base_folder.specs.Wrong.IsSound}
+use Rattle.{base_folder_store.specs.Held.{RepresentsBase, RepresentsBaseAlone, RepresentsBaseOrWasLeft}, echo_links.specs.Links.LinkFile}
+use Rattle.{cmd_status.specs.declared.fault.Fault.Fault, base_store.{specs.Store.StoreState, proofs.Runs.quiet_disk}}
+use Rattle.station.{proofs.Failures.{fails_wider, no_links_wider, not_locked}, specs.{Faults.FailsAt, Opening.{IsNotOpened, IsOpened}}}
+use Rattle.station.specs.Place.{KeepsElsewhere, RepresentsOrWasLeft}
 
 module _ (keyed : ℕ → ℕ → List ℕ → ℕ) (path : List ℕ) (d0 : DiskState) where
   elsewhere_of : (d1 : DiskState) → KeepsOutside path d0 d1 → KeepsElsewhere (folder_place keyed path) d0 d1

@@ -1,16 +1,12 @@
 -- A base file opened as a store.
 use Rattle.std.proofs.Common.{◌≡◌, ◌≤◌, ◌⊎◌, ◌∙◌, inl, inr, ⊎_elim, ℕ, Bool, false, List, Option, None, Some, Result, Ok, Err, ap, arith, subst, sym}
-use Rattle.std.specs.Prelude.{All, ◌≢◌, IfErr, IsSome}
-use Rattle.base_file.{specs.Base.Base, proofs.Loading.base_is}
-use Rattle.echo_filed.specs.Filed.{Filed}
-use Rattle.disk_io.{specs.{Disk.{DiskState, Files, Honestly, bytes_in}, Runs.ChangesNothing}, proofs.Moments.weaker_run}
-use Rattle.echo_links.specs.Links.{LinkFile}
-use Rattle.cmd_status.specs.{Inputs.IsBaseGiven, declared.fault.Fault.Fault}
-use Rattle.base_store.proofs.Runs.{quiet_disk}
-use Rattle.station.proofs.Failures.{fails_wider, no_links_wider, not_locked}
-use Rattle.station.specs.{Faults.FailsAt, Links.AreLinks, Opening.IsNotOpened, Opening.IsOpenFor, Opening.IsOpened, Place.IsOfPlace, Place.KeepsElsewhere, Place.RepresentsOrWasLeft}
+use Rattle.{std.specs.Prelude.{All, ◌≢◌, IfErr, IsSome}, base_file.{specs.Base.Base, proofs.Loading.base_is}, echo_filed.specs.Filed.Filed}
+use Rattle.{disk_io.{specs.{Disk.{DiskState, Files, Honestly, bytes_in}, Runs.ChangesNothing}, proofs.Moments.weaker_run}, echo_links.specs.Links.LinkFile}
+use Rattle.{cmd_status.specs.{Inputs.IsBaseGiven, declared.fault.Fault.Fault}, base_store.proofs.Runs.quiet_disk}
+use Rattle.station.{proofs.Failures.{fails_wider, no_links_wider, not_locked}, specs.{Faults.FailsAt, Links.AreLinks}}
+use Rattle.station.specs.{Opening.{IsNotOpened, IsOpenFor, IsOpened}, Place.{IsOfPlace, KeepsElsewhere, RepresentsOrWasLeft}}
 use Rattle.station_bases.specs.{InFile.{IsHeld, IsReadAs, IsWithinReach, RepresentsInFile, file_state}, declared.held.Held.Held}
-use Rattle.station_bases.{proofs.Loaded.base_in, specs.Reading.{IsFileShut, IsSettled, IsShutFor, IsUnreadFor, file_place}}
+use Rattle.station_bases.{specs.Reading.{IsFileShut, IsSettled, IsShutFor, IsUnreadFor, file_place}, proofs.Loaded.base_in}
 
 -- the base in the bytes of an existing file
 pub given_by : (f : Option (List ℕ)) (messages : List Filed) (cursor : ℕ) → IsSome f → IsBaseGiven (Some (bytes_in f)) messages cursor → IsBaseGiven f messages cursor

@@ -1,9 +1,8 @@
 -- Leftover packets are found one by one.
-use Rattle.std.proofs.Common.{◌≡◌, ⊎_elim, ◌∙◌, ◌<◌, ◌≤◌, ℕ, List, [], ◌∷◌, ◌++◌, ap, arith, get_or, length, length-append, subst, sym}
-use Rattle.std.proofs.{lemmas.Bool.cases_lt, lemmas.List.get_or_append_left, Math.Seq.get_or-append_seam, lemmas.List.Elements.All-append, lemmas.List.Elements.Contains-append_left}
-use Rattle.std.specs.Prelude.{All, AllPairs, Contains, IsSome, Option}
-use Rattle.disk_atomic.specs.{StagingPaths.staging_path, declared.listing.StagedPacket.StagedPacket}
-use Rattle.disk_io.specs.Disk.{Files}
+use Rattle.std.proofs.{Common.{◌≡◌, ⊎_elim, ◌∙◌, ◌<◌, ◌≤◌, ℕ, List, [], ◌∷◌, ◌++◌, ap, arith, get_or, length, length-append, subst, sym}, lemmas.Bool.cases_lt}
+use Rattle.std.proofs.{lemmas.List.{get_or_append_left, Elements.{All-append, Contains-append_left}}, Math.Seq.get_or-append_seam}
+use Rattle.{std.specs.Prelude.{All, AllPairs, Contains, IsSome, Option}, disk_atomic.specs.StagingPaths.staging_path}
+use Rattle.{disk_atomic.specs.declared.listing.StagedPacket.StagedPacket, disk_io.specs.Disk.Files}
 use Rattle.station_scan.specs.{Left.{Adds, AreFound, HaveOtherLeft, IsAmong, IsStagingThere, IsFound, IsFoundWhere}, declared.finding.LeftPaths.LeftPaths}
 
 -- one more behind those that are related to it

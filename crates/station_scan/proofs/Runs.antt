@@ -1,19 +1,15 @@
 -- A scan of a store that was opened, as one of the station.
 use Rattle.std.{proofs.Common.{◌⊎◌, inl, inr, ⊎_elim, ◌∙◌, ℕ, List, Result, Ok, Err, refl, subst, sym, ◌++◌, arith}, specs.Prelude.{OnOk, get_or}}
-use Rattle.base_file.specs.Base.{Base}
-use Rattle.disk_io.specs.{Disk.DiskState, Disk.Files, Runs.ChangesNothing, Runs.LeavesOnly, Runs.OneStepOn}
-use Rattle.disk_io.proofs.Moments.{left_now, then_nothing, then_run, weaker_run}
-use Rattle.echo_links.specs.Links.{LinkFile}
-use Rattle.disk_atomic.specs.{declared.finishing.Left.Left, StagingPaths.dotted, StagingPaths.staging_path}
-use Rattle.cmd_status.specs.Devices.{Output}
-use Rattle.model_steps.specs.{PacketFiles.PacketFile, declared.stamp.Stamp.Stamp}
-use Rattle.base_store.specs.Store.{StoreState, all_scanned}
-use Rattle.cmd_store.specs.declared.command_error.CommandError.{CommandError}
-use Rattle.station.specs.{Beneath.AreSettledByOwn, Place.{IsOfPlace, KeepsElsewhere, Place, RepresentsAlone, RepresentsOrWasLeft}, Opening.IsOpenFor}
+use Rattle.{base_file.specs.Base.Base, disk_io.specs.{Disk.{DiskState, Files}, Runs.{ChangesNothing, LeavesOnly, OneStepOn}}}
+use Rattle.{disk_io.proofs.Moments.{left_now, then_nothing, then_run, weaker_run}, echo_links.specs.Links.LinkFile}
+use Rattle.{disk_atomic.specs.{declared.finishing.Left.Left, StagingPaths.{dotted, staging_path}}, cmd_status.specs.Devices.Output}
+use Rattle.{model_steps.specs.{PacketFiles.PacketFile, declared.stamp.Stamp.Stamp}, base_store.specs.Store.{StoreState, all_scanned}}
+use Rattle.{cmd_store.specs.declared.command_error.CommandError.CommandError, station.specs.Beneath.AreSettledByOwn}
+use Rattle.station.specs.{Place.{IsOfPlace, KeepsElsewhere, Place, RepresentsAlone, RepresentsOrWasLeft}, Opening.IsOpenFor}
 use Rattle.station_scan.specs.Scanning.{AreSentOut, CommitsScan, IsPutAs, IsOnItsWay, IsPreparing, IsPutIn, IsPutOn, IsScanOn, IsTaken, IsTouched, IsTriedIn, MayLeave, PreparesScan, ScansOnStore, SendsOut, StopsScan, StopsScanIn, ReportsStop, packets_in}
-use Rattle.station_scan.specs.{Fitting.AreFit, Left.AreAllLeft, Left.IsLeftOf, Publishing.IsOnDisk, Publishing.UnchangedExcept, Publishing.KeepsStoreBut, Sends.IsOfThese, Sends.WasTriedFor}
-use Rattle.station_scan.specs.declared.scan_error.ScanError.{ScanError, TheVariants.Staying}
-use Rattle.station_scan.proofs.{Lefts.finishes_none, Looked.same_seen, Published.keeps_nothing, Published.keeps_then, Published.keeps_wider, Stops.put_wider, Stops.tells_as}
+use Rattle.station_scan.specs.{Fitting.AreFit, Left.{AreAllLeft, IsLeftOf}, Publishing.{IsOnDisk, UnchangedExcept, KeepsStoreBut}}
+use Rattle.station_scan.{specs.{Sends.{IsOfThese, WasTriedFor}, declared.scan_error.ScanError.{ScanError, TheVariants.Staying}}, proofs.Lefts.finishes_none}
+use Rattle.station_scan.proofs.{Looked.same_seen, Published.{keeps_nothing, keeps_then, keeps_wider}, Stops.{put_wider, tells_as}}
 
 -- the same for another name of the same own paths
 module _ (Own Own2 : List ℕ → Type 0) (out : (m : List ℕ) → Own2 m → Own m) (outbound own : List ℕ) where

@@ -1,7 +1,5 @@
-use Rattle.std.proofs.{Common.subst, Common.sym, Common.arith, lemmas.Result.err_from_is_err_and}
-use Rattle.disk_atomic.{specs.Finishing.IsOfLeft, proofs.Changes.{only_nothing, then_only, wider}}
-use Rattle.base_store.proofs.Runs.{quiet_disk}
-use Rattle.station_scan.specs.Left.{AreSameLeft, IsOfPaths}
+use Rattle.{std.proofs.{Common.{subst, sym, arith}, lemmas.Result.err_from_is_err_and}, disk_atomic.specs.Finishing.IsOfLeft}
+use Rattle.{disk_atomic.proofs.Changes.{only_nothing, then_only, wider}, base_store.proofs.Runs.quiet_disk, station_scan.specs.Left.{AreSameLeft, IsOfPaths}}
 use Rattle.station_scan.proofs.Lefts.{are_free, are_there, nothing_these, of_paths, settled_these, unsettled_these}
 use Rattle.station_scan.proofs.finishing.end_these.Goals as goal
 

@@ -1,6 +1,5 @@
-use Rattle.std.proofs.{Common.List, Common.Result, Common.subst, Common.sym, lemmas.Result.err_from_is_err_and}
-use Rattle.disk_atomic.specs.{ListStaged.AreListed, declared.listing.StagedPacket.StagedPacket, declared.placing_error.PlacingError.PlacingError}
-use Rattle.base_store.proofs.Runs.{quiet_disk}
+use Rattle.{std.proofs.{Common.{List, Result, subst, sym}, lemmas.Result.err_from_is_err_and}, disk_atomic.specs.ListStaged.AreListed}
+use Rattle.{disk_atomic.specs.declared.{listing.StagedPacket.StagedPacket, placing_error.PlacingError.PlacingError}, base_store.proofs.Runs.quiet_disk}
 use Rattle.station_scan.{specs.Left.{EndsLeft, IsOfNameOff}, proofs.{Lefts.{ends_for, nothing_left}, Written.used_none}}
 use Rattle.station_scan.proofs.putting.finish_earlier.Goals as goal
 

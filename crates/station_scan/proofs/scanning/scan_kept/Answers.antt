@@ -1,10 +1,6 @@
-use Rattle.std.proofs.Common.{◌⊎◌, ◌≤◌, ⊎_elim, arith, inl, inr}
-use Rattle.disk_io.specs.Device.{Failed}
-use Rattle.station.proofs.Failures.{failed_wider}
-use Rattle.cmd_status.specs.Devices.{output_of}
-use Rattle.base_store.proofs.Runs.{quiet_disk}
-use Rattle.station_scan.specs.Moved.{IsMoved}
-use Rattle.station_scan.proofs.{Published.keeps_nothing, Scans.moved_keeps, Scans.scans_moved, Scans.scans_stopped}
+use Rattle.{std.proofs.Common.{◌⊎◌, ◌≤◌, ⊎_elim, arith, inl, inr}, disk_io.specs.Device.Failed, station.proofs.Failures.failed_wider}
+use Rattle.{cmd_status.specs.Devices.output_of, base_store.proofs.Runs.quiet_disk, station_scan.{specs.Moved.IsMoved, proofs.Published.keeps_nothing}}
+use Rattle.station_scan.proofs.Scans.{moved_keeps, scans_moved, scans_stopped}
 use Rattle.station_scan.proofs.scanning.scan_kept.Goals as goal
 
 pub returns-in-Ok-clause-scans : goal.returns-in-Ok-clause-scans
