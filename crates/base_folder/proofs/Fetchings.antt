@@ -1,6 +1,4 @@
-use Rattle.std.proofs.Common.{ℕ, ◌≤◌, List, arith}
-use Rattle.cmd_status.specs.declared.fault.Fault.{Fault}
-use Rattle.base_store.proofs.Causes.{failed_since}
+use Rattle.{std.proofs.Common.{ℕ, ◌≤◌, List, arith}, cmd_status.specs.declared.fault.Fault.Fault, base_store.proofs.Causes.failed_since}
 use Rattle.base_folder.specs.Fetching.{CannotRead, IsUnread}
 
 pub read_since : (path : List ℕ) (first before now : ℕ) (fault : Fault) → first ≤ before → CannotRead path before now fault → CannotRead path first now fault
