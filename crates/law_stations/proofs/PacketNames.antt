@@ -29,7 +29,7 @@ no-staging outbound own name other plain is =
     (plain (length other + 1) 0 lt).no_tilde at
 
 -- nor is it the path that a scan tries
-no-trial : (outbound own name : List ℕ) → All IsNameByte name → outbound ++ name ≡ staging_path outbound own → ⊥
+pub no-trial : (outbound own name : List ℕ) → All IsNameByte name → outbound ++ name ≡ staging_path outbound own → ⊥
 no-trial outbound own name plain is = no-staging outbound own name [] plain (is ∙ ap (λ (l : List ℕ). staging_path l own) (sym (append-nil outbound)))
 
 -- the name in a staging path
@@ -86,7 +86,7 @@ same-or-not one other = elim (cases_Bool (bytes_eq one other)) [
 ]
 
 -- one of them has the path, or none
-one-has : {X : Type 0} (f : X → List ℕ) (m : List ℕ) (xs : List X) → ((x : X) × Contains xs x × (m ≡ f x)) ⊎ (All (λ x. m ≢ f x) xs)
+pub one-has : {X : Type 0} (f : X → List ℕ) (m : List ℕ) (xs : List X) → ((x : X) × Contains xs x × (m ≡ f x)) ⊎ (All (λ x. m ≢ f x) xs)
 one-has f m [] = inr (All-nil (λ x. m ≢ f x))
 one-has f m (x ∷ xs) = elim (same-or-not m (f x)) [
   | inl here ↦ inl (x, Contains-get_or (x ∷ xs) 0 x (omega arith), here)

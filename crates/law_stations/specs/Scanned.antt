@@ -7,7 +7,7 @@ use Rattle.model_steps.specs.declared.stamp.Stamp.{Stamp}
 use Rattle.cmd_store.specs.{Coming.Coming, declared.command_error.CommandError.CommandError}
 use Rattle.station.specs.Place.{Place}
 use Rattle.station_scan.specs.declared.scan_error.ScanError.{ScanError}
-use Rattle.law_stations.specs.{Commands.Command, Commands.Scan, Commands.whole_of, Kinds.IsToss, Nets.Station, Nets.with_indexes, Disks.Disks, OnDisks.IsAsBefore, OnDisks.TossesAsEvent, PacketNames.IsFolderOn, PacketNames.IsListed, PacketNames.ShowsFolder, Scans.AreAfterScan, Scans.IsCounted, Scans.ScansAsEvent, Asked.GoesOnCut, Asked.GoesOnEnded, Asked.IsKeptWhereShared, Seats.Seat, Seats.RepresentsSeat, Steps.HasEnded, Steps.IsAllOnDisk}
+use Rattle.law_stations.specs.{Commands.Command, Commands.Scan, Commands.whole_of, Kinds.IsToss, Nets.Station, Nets.with_indexes, Disks.Disks, OnDisks.IsAsBefore, OnDisks.TossesAsEvent, PacketNames.IsListed, PacketNames.ShowsFolder, Scans.AreAfterScan, Scans.IsCounted, Scans.ScansAsEvent, Asked.GoesOnCut, Asked.GoesOnEnded, Asked.IsKeptWhereShared, Seats.Seat, Seats.RepresentsSeat, Steps.HasEnded, Steps.IsAllOnDisk}
 
 -- The packets that a toss tossed whole are delivered.
 pub record GoesOnTossed {Kept : Type 0} (place : Kept → Place) (seats : List (Seat Kept)) (seat : Seat Kept) (i : ℕ) (indexes : List ℕ) (answer : Option Fault) (left : List Coming) (d : Disks) (old new : DiskState) : Type 0 where
@@ -30,13 +30,13 @@ HavePackets stamp place links outbound i d ended base c next = (after : AreAfter
 
 -- Of a scan with this timestamp, where the net without earlier staging files is `finished`. If a crash cuts it, the net goes on by its
 -- command event. Before the commit it is as it was, or only earlier staging files are finished. Then the files have the packets.
--- If the scan ends well, and its folder is on the disk, the net goes on so too. If station and folder are unchanged, as after a
+-- If the scan ends well, the net goes on so too. If station and folder are unchanged, as after a
 -- fault, the net goes on by no event.
 pub record ScanGoesOn {D Kept : Type 0} (state : D → DiskState) (place : Kept → Place) (seats : List (Seat Kept)) (seat : Seat Kept) (i : ℕ) (stamp : Stamp) (d finished : Disks) (was : Station) (old whole : D) (result : Result (Unit {0}) ScanError) : Type 0 where
   pub cut : (begun : D) → (state whole).left_since (state old).moment (state begun).seen → IsAllOnDisk (state begun)
       → (goes : GoesOnCut (IsScan stamp) place seat i d (state old) (state whole) (state begun))
       × (((goes.next ≡ d) ⊎ (goes.next ≡ finished)) ⊎ HavePackets stamp (place seat.kept) seat.links seat.outbound i d finished was.base (state begun).seen goes.next)
-  pub ended : result ≡ Ok tt → IsKeptWhereShared place seats seat i (state whole) → IsFolderOn (place seat.kept) seat.outbound (state whole)
+  pub ended : result ≡ Ok tt → IsKeptWhereShared place seats seat i (state whole)
       → (goes : GoesOnEnded (IsScan stamp) place seats seat i d (state old) (state whole))
       × HavePackets stamp (place seat.kept) seat.links seat.outbound i d finished was.base (state whole).seen goes.next
   pub none : IsAsBefore (place seat.kept) seat.links i d (state whole) → IsKeptWhereShared place seats seat i (state whole) → ShowsFolder (place seat.kept) seat.outbound i was (state whole) d

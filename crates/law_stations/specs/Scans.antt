@@ -9,7 +9,7 @@ use Rattle.model_steps.specs.{PacketFiles.PacketFile, declared.stamp.Stamp.Stamp
 use Rattle.cmd_store.specs.declared.command_error.CommandError.TheVariants.{Met}
 use Rattle.station.specs.Place.{Place}
 use Rattle.station_scan.specs.{Scanning.IsTouched, declared.scan_error.ScanError.ScanError, declared.scan_error.ScanError.TheVariants.Command}
-use Rattle.law_stations.specs.{OnDisks.IsAsBefore, OnDisks.IsLinkedOn, OnDisks.IsStationAt, OnDisks.LeavesElsewhere, OnDisks.ReadsLinks, OnDisks.ShowsStation, Commands.Scan, Nets.Station, Nets.bytes_of, Disks.Disks, PacketNames.IsFolderIn, PacketNames.IsListed, PacketNames.ShowsFolder, Stopping.EndsSome, Stopping.HasNoneStaged, Stopping.PartialEffect, Stopping.staging_of}
+use Rattle.law_stations.specs.{OnDisks.IsAsBefore, OnDisks.IsLinkedOn, OnDisks.IsStationAt, OnDisks.LeavesElsewhere, OnDisks.ReadsLinks, OnDisks.ShowsStation, Commands.Scan, Nets.Station, Nets.bytes_of, Disks.Disks, PacketNames.IsFolderIn, PacketNames.IsFolderOn, PacketNames.IsListed, PacketNames.ShowsFolder, Stopping.EndsSome, Stopping.HasNoneStaged, Stopping.PartialEffect, Stopping.staging_of}
 
 -- The packet is whole at its path.
 abbrev pub IsAtPath : List ℕ → Files → PacketFile → Type 0
@@ -44,6 +44,10 @@ abbrev pub KeepsFolder : (Files → Type 0) → Place → List ℕ → ℕ → S
 KeepsFolder IsTrue place outbound i was old d station c next =
     IsListed IsTrue place.is_own old → IsCounted was.base → ShowsFolder place outbound i was old d → IsFolderIn place outbound i station c next
 
+-- Let the list of earlier packets be true, and the folder be as the first net has it. Then the folder is on the disk.
+abbrev pub SettlesFolder : (Files → Type 0) → Place → List ℕ → ℕ → Station → DiskState → Disks → DiskState → Type 0
+SettlesFolder IsTrue place outbound i was old d new = IsListed IsTrue place.is_own old → ShowsFolder place outbound i was old d → IsFolderOn place outbound new
+
 -- The station, with its folder, after the commit of a scan.
 pub record IsAfterCommit (stamp : Stamp) (IsTrue : Files → Type 0) (place : Place) (links outbound : List ℕ) (i : ℕ) (d ended : Disks) (was : Station) (old : DiskState) (c : Files) : Type 0 where
   pub scan : AreAfterScan stamp place links outbound i d ended was.base c
@@ -54,6 +58,7 @@ pub record IsAfterCommit (stamp : Stamp) (IsTrue : Files → Type 0) (place : Pl
 pub record IsAfterScan (stamp : Stamp) (IsTrue : Files → Type 0) (place : Place) (links outbound : List ℕ) (i : ℕ) (d ended : Disks) (was : Station) (old new : DiskState) : Type 0 where
   pub scan : AreAfterScan stamp place links outbound i d ended was.base new.seen
   pub folder : KeepsFolder IsTrue place outbound i was old d scan.shows.station new.seen scan.after
+  pub folder_on_disk : SettlesFolder IsTrue place outbound i was old d new
   pub none_waits : scan.waiting ≡ []
   pub at : IsStationAt place links i new scan.after
   pub on_disk : (c : Files) → new.may_leave c → ShowsStation place links i c scan.after

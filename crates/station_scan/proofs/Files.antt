@@ -9,9 +9,9 @@ use Rattle.echo_addr.specs.declared.address.Address.{Address}
 use Rattle.model_steps.specs.{PacketFiles.PacketFile, Scanning.header_to}
 use Rattle.cmd_store.specs.PacketLines.{file_sent, packet_name}
 use Rattle.echo_toss.{specs.{Counts.{bytes_for, link_set}, Exports.{OutgoingMessage as Sent, nowhere, packet_out}}, proofs.Counts.scanned_to}
-use Rattle.station_scan.specs.Sending.{AreRoutes, HasBytes, IsAtItsPath, IsFreeAt, IsOfPacket, IsOffOwn, IsStagingGone, IsStagingOfPacket, IsWhole, IsWholeAlone, file_paths, for_address}
+use Rattle.station_scan.specs.Sending.{AreRoutes, HasBytes, IsAtItsPath, IsFreeAt, IsOfPacket, IsOffOwn, IsStagingGone, IsStagingOfPacket, IsStagingOn, IsWhole, IsWholeAlone, file_paths, for_address}
 use Rattle.station_scan.specs.Passing.{AreFor, FitTo, IsFront, IsGrowingTo, IsRouted, IsStagingTo, IsTakenFor, all_sent, is_made, links_to}
-use Rattle.station_scan.specs.{Fitting.AreFit, Fitting.AreTaken, Publishing.IsFreeIn, Publishing.IsGoingAt, Publishing.ended_in, Publishing.no_files, Scanning.packets_in, declared.sending.Sending.Sending}
+use Rattle.station_scan.specs.{Fitting.AreFit, Fitting.AreTaken, Publishing.IsFreeIn, Publishing.IsGoingAt, Publishing.IsOnDisk, Publishing.IsStagingOnDisk, Publishing.ended_in, Publishing.no_files, Scanning.packets_in, declared.sending.Sending.Sending}
 use Rattle.station_scan.proofs.{Lists.all_of_map, Lists.contains_map, Lists.kept_passes, Lists.map_twice, Routes.address_for, Routes.all_for, Routes.made_wider, Routes.plain_name}
 
 -- the bytes of each packet
@@ -93,6 +93,9 @@ module _ (to : Sending) (planned : AreRoutes to) (base : Base) (packets : List O
 
     pub none_staging : All (IsStagingGone to.outbound.now to.own.now disk.seen) (files_to to base)
     none_staging = all_files (IsStagingGone to.outbound.now to.own.now disk.seen) (λ k z lt. ap disk.seen (sym (for.routed k z lt).staging) ∙ (all k z lt).gone)
+
+  pub staging_on : (disk : DiskState) → All (IsStagingOnDisk disk) packets → All (IsStagingOn to.outbound.now to.own.now disk) (files_to to base)
+  staging_on disk all = all_files (IsStagingOn to.outbound.now to.own.now disk) (λ k z lt. subst (IsOnDisk disk) (for.routed k z lt).staging (all k z lt))
 
   pub files_bytes : All (SendsBytes (for_address (content_of to base))) packets → All HasBytes (files_to to base)
   files_bytes all = all_files HasBytes all

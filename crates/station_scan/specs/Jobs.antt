@@ -6,7 +6,7 @@ use Rattle.disk_atomic.specs.{ListStaged.AreListed, Naming.HasItsPath, Naming.Na
 use Rattle.disk_atomic.specs.declared.{listing.StagedPacket.StagedPacket, outgoing.Outgoing.Outgoing, placing_error.PlacingError.PlacingError, placing_error.PlacingError.TheVariants.Taken}
 use Rattle.echo_toss.specs.Exports.{OutgoingMessage as Sent}
 use Rattle.station_scan.specs.{Left.AreFreeLeft, Left.EndsLeft, Passing.AreGrowing, Passing.IsAppending, Publishing.AreGone, Publishing.AreStaged, Publishing.HasStageCause, Publishing.IsTriedWith}
-use Rattle.station_scan.specs.Publishing.{IsWritten, NoneStays, ended_in}
+use Rattle.station_scan.specs.Publishing.{IsStagingOnDisk, IsWritten, NoneStays, ended_in}
 use Rattle.station_scan.specs.declared.{publish_error.PublishError.PublishError, sending.Sending.Sending, writing.Batch.Batch}
 
 -- The listed leftover packets were finished, by the cursor. The numbers are how often the disk failed before and after, here and below.
@@ -50,6 +50,7 @@ pub record CanName (outbound : List ℕ) (packets : List Outgoing) (disk : DiskS
 -- The packets got their paths, or a path is in use.
 pub record HasNamed (packets : List Outgoing) (old new : DiskState) (before now : ℕ) (result : Result Bool DiskError) : Type 0 where
   pub named : Honestly new (IfOk result (λ all. all ≡ true → All (HasItsPath (staged_in old.seen) new) packets))
+  pub settled : Honestly new (IfOk result (λ all. all ≡ true → All (IsStagingOnDisk new) packets))
   pub taken : Honestly new (IfOk result (λ all. all ≡ false → All (IsFree old) packets → ⊥))
   pub any_moment : Honestly new (LeavesOnly old new (OneStepOn (NamesEach (staged_in old.seen) packets) old))
   pub cause : HasCause before now result

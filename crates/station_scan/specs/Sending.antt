@@ -7,6 +7,7 @@ use Rattle.echo_toss.specs.Counts.{link_set}
 use Rattle.cmd_store.specs.PacketLines.{packet_name}
 use Rattle.model_steps.specs.PacketFiles.{PacketFile}
 use Rattle.disk_atomic.specs.{Changes.HasOnDisk, declared.outgoing.Outgoing.Outgoing, ListStaged.IsNameByte, StagingPaths.dotted, StagingPaths.staging_path}
+use Rattle.station_scan.specs.Publishing.{IsOnDisk}
 use Rattle.station_scan.specs.declared.sending.{Route.Route, Sending.Sending, TwoPaths.TwoPaths}
 
 -- The path of a packet of this name in the folder, and its staging path.
@@ -61,6 +62,10 @@ for_address content packet = content packet.to
 -- The packet is on the disk, at its path, with just its bytes.
 abbrev pub IsAtItsPath : List ℕ → DiskState → PacketFile → Type 0
 IsAtItsPath folder disk sent = HasOnDisk disk (folder ++ sent.name) sent.bytes
+
+-- What its staging path leads to is on the disk.
+abbrev pub IsStagingOn : List ℕ → List ℕ → DiskState → PacketFile → Type 0
+IsStagingOn folder own disk sent = IsOnDisk disk (staging_path (folder ++ sent.name) own)
 
 -- Its content is bytes.
 abbrev pub HasBytes : PacketFile → Type 0
