@@ -13,3 +13,4 @@ pub mod SavedAgain
 pub mod NotedTags
 pub mod Pieces
 pub mod LoneMessages
+pub mod KnownLists

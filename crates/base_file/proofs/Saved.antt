@@ -82,7 +82,7 @@ string_right most s room bytes =
 strings_right : (short : Bool) (m : Filed) → IsFiled m → has_wrong_string (stored_as short m) ≡ false
 strings_right short m h = grind (arith, or_from, string_right)
 
-text_right : (e : EchoText) → IsEcho e → is_wrong_text (text_of e) ≡ false
+pub text_right : (e : EchoText) → IsEcho e → is_wrong_text (text_of e) ≡ false
 text_right e is =
     or_from (list_any is_zero (text_of e)) (not (is_none (text_refusal (text_of e))) || not (bytes_eq (text_of (echo_of (text_of e))) (text_of e)))
     (none_zero (text_of e) (text_no_zero e is))

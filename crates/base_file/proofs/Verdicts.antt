@@ -1,7 +1,8 @@
 -- The tests that decide if a stored message may be next in a base.
-use Rattle.std.proofs.Common.{◌≡◌, ◌==◌, ℕ, ◌||◌, not, Bool, true, false, List, [], ◌∷◌, length, sym, ap, subst, ◌∙◌, Option, Some, arith}
-use Rattle.std.proofs.lemmas.Bool.{not-false, or_parts}
-use Rattle.std.specs.{Prelude.bytes_eq, List.list_all, List.list_any}
+use Rattle.std.proofs.Common.{◌≡◌, ◌==◌, ℕ, ◌||◌, not, Bool, true, false, List, [], ◌∷◌, length, get_or, sym, ap, subst, ◌∙◌, Option, None, Some, arith}
+use Rattle.std.proofs.lemmas.{Bool.false_from_ne_true, Bool.not-false, Bool.or_parts, List.Elements.All-from_get_or, List.Folds.list_any_at, List.Folds.list_any_none}
+use Rattle.std.specs.{Prelude.bytes_eq, Prelude.is_some, List.list_all, List.list_any}
+use Rattle.memchr.specs.Find.{IsFirstByte, is_byte}
 use Rattle.echo_addr.specs.declared.address.{Address.Address, NetNode.NetNode}
 use Rattle.echo_text.specs.{Lines.is_tag, Lines.msgid_word, Lines.trimmed, Echo.EchoOf, Echo.EchoText, Echo.IsEcho, Ids.is_line_byte, Ids.is_zero}
 use Rattle.echo_filed.specs.Stored.{IsStored, Stored, has_tag, message_in, sender_in}
@@ -10,6 +11,11 @@ use Rattle.echo_filed.proofs.{Plain.plain_if, Stubs.bare_echo, Texts.says_accept
 use Rattle.base_file.specs.BaseFile.{has_wrong_form, has_wrong_last, has_wrong_sender, has_wrong_string, is_damaged, is_other_kind, is_wrong_id, is_wrong_text}
 use Rattle.base_file.specs.{Base.is_known, Loading.UnlessWrong, Loading.is_wrong, Loading.said_last, Loading.wrong_last}
 use Rattle.base_file.proofs.Loaded.{filed_with, right_last}
+
+pub zero_found : (bytes : List ℕ) (place : Option ℕ) → IsFirstByte (is_byte 0) bytes place → is_some place ≡ list_any is_zero bytes
+zero_found bytes (Some k) found = sym (list_any_at is_zero bytes k 0 found.0.high found.1)
+zero_found bytes None none =
+    sym (list_any_none is_zero bytes (All-from_get_or (λ b. is_zero b ≡ false) bytes 0 (λ i below. false_from_ne_true (is_zero (get_or bytes i 0)) (none i (omega arith) below))))
 
 pub text_wrong : (text : List ℕ) (e : EchoText) (dropped : ℕ) → list_any is_zero text ≡ false → EchoOf text e dropped → is_wrong_text text ≡ not (bytes_eq (text_of e) text)
 text_wrong text e dropped zero says = grind (arith, says_accepted, says_one)

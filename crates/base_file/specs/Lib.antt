@@ -5,3 +5,4 @@ pub mod Saving
 pub mod Loading
 pub mod Pieces
 pub mod Alone
+pub mod Lists

@@ -1,16 +1,18 @@
 //! Decides whether a stored message may be in a base, and which message it is.
-ghost use Rattle.std.specs.Prelude.{◌≡◌, ◌||◌, not, bytes_eq, false, None, Some, if◌then◌else◌, IfOk, IsTrue};
-ghost use Rattle.std.specs.List.{list_all};
-ghost use Rattle.echo_text.specs.{Lines.is_tag, Echo.IsEcho, Ids.is_line_byte};
+ghost use Rattle.std.specs.Prelude.{◌≡◌, ◌||◌, not, bytes_eq, false, None, Some, if◌then◌else◌, IfOk, IfSome, IsTrue};
+ghost use Rattle.std.specs.List.{list_all, list_any};
+ghost use Rattle.echo_text.specs.{Lines.is_tag, Echo.IsEcho, Ids.is_line_byte, Ids.is_zero};
 ghost use Rattle.echo_filed.specs.{Written.echo_of, Written.text_of, declared.key.Key.TheVariants.ById, Filed.key_of, Stubs.bare, Stored.IsStored, Stored.is_posted, Stored.message_in};
 ghost use Rattle.base_file.specs.BaseFile.{has_wrong_last, has_wrong_sender, has_wrong_string, is_no_string, is_other_kind, is_wrong_id, is_wrong_text};
 ghost use Rattle.base_file.specs.Loading.{IsShortOnceScanned, Judges, UnlessWrong, has_wrong_field, has_wrong_front, is_wrong, said_last, wrong_form, wrong_last};
 
+use crate::known_lists::KnownLists;
 use crate::room::MessageRoom;
 use echo_addr::{Address, Items};
 use echo_filed::{Filed, Key, StoredMessage, Version, has_tag, is_short, lines_of_id};
 use echo_packet::{MAX_NAME, MAX_SUBJECT};
 use echo_text::{Echo, TextFault, is_kept_tag, overwrite_text, read_into_room, trimmed};
+use memchr::memchr;
 use std::alloc::AllocError;
 
 fn is_other_kind(version: Version, kind: u8) -> bool
@@ -38,7 +40,14 @@ fn has_wrong_sender(stored: &StoredMessage) -> bool
 fn is_no_string(most: usize, bytes: &[u8]) -> bool
     ensures { result ≡ is_no_string most bytes.now }
 {
-    bytes.len() > most || bytes.contains(&0)
+    bytes.len() > most || has_zero(bytes)
+}
+
+#[tactic(auto, using(crate::proofs::Verdicts::zero_found))]
+fn has_zero(bytes: &[u8]) -> bool
+    ensures { result ≡ list_any is_zero bytes.now }
+{
+    memchr(0, bytes).is_some()
 }
 
 fn has_wrong_string(stored: &StoredMessage) -> bool
@@ -72,12 +81,50 @@ fn is_written(room: &mut MessageRoom, echo: &Echo, text: &[u8]) -> Result<bool, 
     Ok(same)
 }
 
+#[tactic(auto, using(crate::proofs::KnownLists::right_written))]
 fn echo_of(room: &mut MessageRoom, text: &[u8]) -> Result<Option<Echo>, AllocError>
     ensures { IfOk result (UnlessWrong (is_wrong_text text.now) (echo_of text.now)) }
 {
-    if text.contains(&0) {
+    if has_zero(text) {
         return Ok(None);
     }
+    if let Some(lists) = room.take_lists(text) {
+        let found = echo_with(room, &lists, text)?;
+        room.put_lists(lists);
+        if let Some(echo) = found {
+            return Ok(Some(echo));
+        }
+    }
+    let found = written_echo(room, text)?;
+    if let Some(echo) = &found {
+        room.keep_lists(echo, text)?;
+    }
+    Ok(found)
+}
+
+/// The echo of a text that ends with these lines, if the tosser writes it so.
+#[tactic(auto, using(crate::proofs::KnownLists::no_zero_in_front, crate::proofs::KnownLists::right_written, crate::proofs::KnownLists::written_right))]
+fn echo_with(
+    room: &mut MessageRoom,
+    lists: &KnownLists,
+    text: &[u8],
+) -> Result<Option<Echo>, AllocError>
+    requires { list_any is_zero text.now ≡ false }
+    ensures { IfOk result (λ found. IfSome found (λ echo. (is_wrong_text text.now ≡ false) × (echo ≡ echo_of text.now))) }
+{
+    let Some(front) = lists.text_before(text) else {
+        return Ok(None);
+    };
+    match written_echo(room, front)? {
+        Some(echo) => lists.added_to(echo),
+        None => Ok(None),
+    }
+}
+
+fn written_echo(room: &mut MessageRoom, text: &[u8]) -> Result<Option<Echo>, AllocError>
+    requires { list_any is_zero text.now ≡ false }
+    ensures { IfOk result (UnlessWrong (is_wrong_text text.now) (echo_of text.now)) }
+{
     let echo = match read_into_room(room.take_echo(), text) {
         Ok((echo, _)) => echo,
         Err(TextFault::Memory) => return Err(AllocError),

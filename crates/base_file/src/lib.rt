@@ -7,6 +7,7 @@ mod alone;
 mod base;
 mod fault;
 mod judging;
+mod known_lists;
 mod laws;
 mod piece;
 mod purging;

@@ -1,14 +1,22 @@
 //! Vectors that one message after another is read into.
+ghost use Rattle.std.specs.Prelude.{◌≡◌};
+ghost use Rattle.echo_filed.specs.Written.{text_of};
+
+use crate::known_lists::{KnownLists, place_of};
 use echo_addr::NetNode;
 use echo_filed::{Filed, StoredRoom};
-use echo_text::EchoRoom;
-use std::alloc::Global;
+use echo_text::{Echo, EchoRoom};
+use std::alloc::{AllocError, Global};
 
-/// Vectors of messages that are needed no more. They may hold anything.
+/// How many lists of earlier texts are kept.
+const MOST_LISTS: usize = 16;
+
+/// Vectors of messages that are needed no more, which may hold anything; and lists of texts.
 #[derive(Drop)]
 pub struct MessageRoom {
     bytes: Vec<Vec<u8>>,
     entries: Vec<Vec<NetNode>>,
+    lists: Vec<KnownLists>,
 }
 
 impl MessageRoom {
@@ -17,6 +25,7 @@ impl MessageRoom {
         MessageRoom {
             bytes: Vec::new(alloc),
             entries: Vec::new(alloc),
+            lists: Vec::new(alloc),
         }
     }
 
@@ -78,5 +87,32 @@ impl MessageRoom {
             seen: self.take_entries(),
             path: self.take_entries(),
         }
+    }
+
+    /// Takes the lists that the text ends with, if they are kept.
+    pub(crate) fn take_lists(&mut self, text: &[u8]) -> Option<KnownLists> {
+        let at = place_of(&self.lists, text)?;
+        Some(self.lists.swap_remove(at))
+    }
+
+    pub(crate) fn put_lists(&mut self, lists: KnownLists) {
+        let _put = self.lists.push(lists);
+    }
+
+    /// Keeps the lists of this text, in place of others if there are many.
+    pub(crate) fn keep_lists(&mut self, echo: &Echo, text: &[u8]) -> Result<(), AllocError>
+        requires { text.now ≡ text_of echo.now }
+    {
+        if echo.seen.is_empty() && echo.path.is_empty() {
+            return Ok(());
+        }
+        let others = if self.lists.len() < MOST_LISTS {
+            KnownLists::none(self.alloc())
+        } else {
+            self.lists.swap_remove(0)
+        };
+        let lists = others.replaced(echo, text)?;
+        self.put_lists(lists);
+        Ok(())
     }
 }

@@ -1,8 +1,7 @@
 -- Messages of a base with different keys.
 use Rattle.std.proofs.Common.{◌≡◌, ◌∙◌, ◌<◌, ◌||◌, ℕ, suc, zero, Bool, true, false, List, [], ◌∷◌, Option, Some, take, sym, ap, subst, arith}
 use Rattle.std.{proofs.lemmas.{Bool.false≢true, Option.{get_or_from_slice_get, slice_get_within}}, specs.Prelude.{option_map, slice_get}}
-use Rattle.echo_filed.{specs.{Filed.{Filed, key_of, same_key}, declared.key.Key.Key}, proofs.Keys.same_key_decides}
-use Rattle.base_file.specs.Base.{IsBase, is_known}
+use Rattle.{echo_filed.{specs.{Filed.{Filed, key_of, same_key}, declared.key.Key.Key}, proofs.Keys.same_key_decides}, base_file.specs.Base.{IsBase, is_known}}
 use Rattle.base_folder_store.proofs.Stubbed.{new_at}
 
 abbrev pub HasKeyAt : List Filed → ℕ → Key → Type 0

@@ -1,10 +1,7 @@
-use Rattle.std.proofs.Common.{◌≡◌, ◌∙◌, ℕ, List, [], length, false, inr, refl, sym, ap, subst, arith, lit<}
-use Rattle.echo_addr.specs.declared.address.Address.{Address}
-use Rattle.disk_io.specs.Disk.{Files, bytes_in}
-use Rattle.base_log.specs.{Log.no_mark, Log.nothing_recorded, Names.log_of, Names.messages_of, Names.keys_of, Reading.ReadsAll, Standing.BaseBytes, Standing.IsNew, Standing.Represents}
-use Rattle.base_log.{specs.declared.log.{End.End, CommitRecord.CommitRecord}, proofs.{Empty.new_log, Paths.{log_in, messages_in, keys_in}}}
-use Rattle.base_file.specs.Base.{Base}
-use Rattle.base_folder_store.specs.Held.{HoldsBase, RepresentsBase}
+use Rattle.{std.proofs.Common.{◌≡◌, ◌∙◌, ℕ, List, [], length, false, inr, refl, sym, ap, subst, arith, lit<}, echo_addr.specs.declared.address.Address.Address}
+use Rattle.{disk_io.specs.Disk.{Files, bytes_in}, base_log.specs.{Log.{no_mark, nothing_recorded}, Names.{log_of, messages_of, keys_of}, Reading.ReadsAll}}
+use Rattle.base_log.{specs.{Standing.{BaseBytes, IsNew, Represents}, declared.log.{End.End, CommitRecord.CommitRecord}}, proofs.Empty.new_log}
+use Rattle.{base_log.proofs.Paths.{log_in, messages_in, keys_in}, base_file.specs.Base.Base, base_folder_store.specs.Held.{HoldsBase, RepresentsBase}}
 use Rattle.base_folder.{specs.{Ours.IsOfOther, Unopened.HaveRoom, Wrong.{HasNoFiles, IsFolderLog, IsSound}}, proofs.Wrongs.{one_end, sound_by}}
 
 no_bytes : BaseBytes

@@ -1,15 +1,12 @@
 -- The base file of a folder, message by message.
 use Rattle.std.proofs.Common.{◌≡◌, ◌∙◌, ◌<◌, ◌≤◌, ◌^◌, ◌++◌, ◌⊎◌, nat_lt, false, ℕ, suc, ◌+◌, List, Option, Result, Ok, Err, Some, length, take, drop, refl, sym, ap, subst, arith, get_or}
-use Rattle.std.proofs.{KnownBytes.Appends-trans, lemmas.Bool.and_right, lemmas.List.append-nil, lemmas.List.append_assoc, lemmas.List.take_all, lemmas.Option.slice_get-get_or}
-use Rattle.std.specs.{Io.KnownBytes.Appends, List.flat_map, List.list_all, Prelude.slice_get, Result.OnErr}
-use Rattle.echo_filed.specs.{Filed.Filed, declared.stored.Version.TheVariants.Second, Stored.is_short_enough, Stored.stored_bytes}
+use Rattle.std.proofs.{KnownBytes.Appends-trans, lemmas.{Bool.and_right, List.{append-nil, append_assoc, take_all}, Option.slice_get-get_or}}
+use Rattle.{std.specs.{Io.KnownBytes.Appends, List.{flat_map, list_all}, Prelude.slice_get, Result.OnErr}, echo_filed.specs.Filed.Filed}
+use Rattle.echo_filed.specs.{declared.stored.Version.TheVariants.Second, Stored.{is_short_enough, stored_bytes}}
 use Rattle.base_file.specs.{BaseFile.{head_bytes, is_countable, saved_bytes, stored_at, stored_from}, Base.Base, declared.fault.BaseFault.BaseFault}
-use Rattle.base_file.proofs.SavedMessages.{all_more, all_parts, not_countable, saved_parts, stored_all, too_long_here}
-use Rattle.cmd_status.{specs.Lines.WritesFront, proofs.Lines.{front_more, front_sent}}
-use Rattle.disk_io.specs.Device.{Sends}
-use Rattle.base_store.proofs.Causes.{failed_since}
-use Rattle.base_folder_store.proofs.Looked.{some_message}
-use Rattle.base_folder.specs.AsFile.{IsFileFault, IsMessageFault}
+use Rattle.{base_file.proofs.SavedMessages.{all_more, all_parts, not_countable, saved_parts, stored_all, too_long_here}, cmd_status.specs.Lines.WritesFront}
+use Rattle.{cmd_status.proofs.Lines.{front_more, front_sent}, disk_io.specs.Device.Sends, base_store.proofs.Causes.failed_since}
+use Rattle.{base_folder_store.proofs.Looked.some_message, base_folder.specs.AsFile.{IsFileFault, IsMessageFault}}
 
 pub message_there : (all : List Filed) (i : ℕ) → i < length all → Filed
 message_there all i within = get_or all i (some_message all i within)

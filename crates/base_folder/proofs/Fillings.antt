@@ -1,24 +1,22 @@
 -- A folder filled with the messages of a base, one after another.
 use Rattle.std.proofs.Common.{◌≡◌, ◌≤◌, ◌<◌, ◌+◌, ℕ, List, [], ◌∷◌, ◌++◌, Some, None, length, take, false, inl, inr, ⊎_elim, Bool, Result, Ok, Err, refl, sym, ap, subst, ◌∙◌, arith, length-append}
-use Rattle.std.proofs.lemmas.{Grind.flat_map-append, List.append-nil, List.length-map, List.length-take-le, List.take_all, Option.get_or_from_slice_get, Option.slice_get_within}
+use Rattle.std.proofs.lemmas.{Grind.flat_map-append, List.{append-nil, length-map, length-take-le, take_all}, Option.{get_or_from_slice_get, slice_get_within}}
 use Rattle.std.{proofs.lemmas.Result.{IfErr-weaker, on_ok_weaker}, specs.Prelude.{IfErr, IsErrAnd, IsErrOf, OnOk, slice_get}}
-use Rattle.disk_io.{specs.{Disk.{DiskState, Files}, Runs.LeavesOnly}, proofs.Moments.{then_run, weaker_run}}
-use Rattle.base_log.specs.{AtRest.IsAtRest, Moments.IsBeforeOrAfter, Moments.KeepsOutside, Moments.RepresentsAlone, Standing.BaseBytes, Standing.Represents}
-use Rattle.base_log.proofs.Rested.{rest_same, rest_represented}
-use Rattle.echo_filed.specs.{Filed.Filed, Filed.key_of, Stored.IsStored, Stored.Stored, Stored.message_in, Stored.stored_bytes, declared.stored.Version.TheVariants.Second}
-use Rattle.echo_filed.proofs.Plain.{all_append}
-use Rattle.base_file.{specs.{Alone.{IsStoredAlone, MayStandAlone}, Base.{Base, IsBase, is_known}, declared.fault.BaseFault.BaseFault}, proofs.Purges.front_more}
+use Rattle.{disk_io.{specs.{Disk.{DiskState, Files}, Runs.LeavesOnly}, proofs.Moments.{then_run, weaker_run}}, base_log.specs.AtRest.IsAtRest}
+use Rattle.{base_log.specs.{Moments.{IsBeforeOrAfter, KeepsOutside, RepresentsAlone}, Standing.{BaseBytes, Represents}}, base_store.proofs.Causes.failed_since}
+use Rattle.{base_log.proofs.Rested.{rest_same, rest_represented}, echo_filed.specs.{Filed.{Filed, key_of}, Stored.{IsStored, Stored, message_in, stored_bytes}}}
+use Rattle.{echo_filed.{specs.declared.stored.Version.TheVariants.Second, proofs.Plain.all_append}, base_file.specs.Alone.{IsStoredAlone, MayStandAlone}}
+use Rattle.base_file.{specs.{Base.{Base, IsBase, is_known}, declared.fault.BaseFault.BaseFault}, proofs.Purges.front_more}
 use Rattle.base_folder_store.specs.{Held.{HoldsBase, RepresentsBase, RepresentsBaseAlone, RepresentsBaseOrWasLeft, digest_by}, declared.folder.Folder.Folder}
-use Rattle.base_folder_store.specs.{Answers.Answers, Answers.HasReadCause, Added.with_stored, Opened.IsOpen, Opened.committed_by, Opened.held_by, Opened.path_of, State.IsUsable}
-use Rattle.base_store.specs.{Keys.digested, Keys.digested_key, Keys.entry, Keys.keys_from, declared.store_error.StoreError.StoreError}
-use Rattle.base_store.proofs.{Digests.of_key, Placed.bytes_of, Placed.keys_append, Placed.keys_long, Causes.failed_since}
-use Rattle.base_folder_store.proofs.{Causes.answers_give, Causes.handed_on, Legible.keys_all, Legible.legible_open, Runs.run_none, Runs.run_twice, Seen.at_end, Seen.end_holds, Seen.end_open}
-use Rattle.base_folder_store.proofs.Stubbed.{new_at}
+use Rattle.base_folder_store.specs.{Answers.{Answers, HasReadCause}, Added.with_stored, Opened.{IsOpen, committed_by, held_by, path_of}, State.IsUsable}
+use Rattle.base_folder_store.proofs.{Causes.{answers_give, handed_on}, Legible.{keys_all, legible_open}, Runs.{run_none, run_twice}}
+use Rattle.{base_folder_store.proofs.{Seen.{at_end, end_holds, end_open}, Stubbed.new_at}, base_store.specs.Keys.{digested, digested_key, entry, keys_from}}
+use Rattle.base_store.{specs.declared.store_error.StoreError.StoreError, proofs.{Digests.of_key, Placed.{bytes_of, keys_append, keys_long}}}
+use Rattle.base_folder.specs.Filled.{AddsOnly, FillsAllOrNothing, FillsOnly, HasFillCause, HasUnfilledCause, HoldsFront, HoldsMany, HoldsMore, IsFilledFull, IsKept, IsOpenIfUnread, IsUncommitted, IsUndamaged, IsUnfilled, ReadsFor, RepresentsMany, RepresentsNoneOr, RepresentsNoneOrWasLeft, ShowsBase, no_messages, unfilled_cause}
+use Rattle.base_folder.specs.{AsFile.file_cause, OpenError.{HasUnreadCause, IsWrong}, Source.{LooksAt, SourceState}, declared.open_error.OpenError.OpenError}
+use Rattle.base_folder.{specs.declared.fill_error.FillError.FillError, proofs.{Files.there, Lookings.err_is, Readings.{looks_none, looks_on}}}
 use Rattle.base_file.specs.declared.fault.BaseFault.TheVariants as fault
 use Rattle.base_store.specs.declared.store_error.StoreError.TheVariants as store
-use Rattle.base_folder.specs.Filled.{AddsOnly, FillsAllOrNothing, FillsOnly, HasFillCause, HasUnfilledCause, HoldsFront, HoldsMany, HoldsMore, IsFilledFull, IsKept, IsOpenIfUnread, IsUncommitted, IsUndamaged, IsUnfilled, ReadsFor, RepresentsMany, RepresentsNoneOr, RepresentsNoneOrWasLeft, ShowsBase, no_messages, unfilled_cause}
-use Rattle.base_folder.specs.{AsFile.file_cause, OpenError.HasUnreadCause, OpenError.IsWrong, Source.LooksAt, Source.SourceState, declared.open_error.OpenError.OpenError}
-use Rattle.base_folder.{specs.declared.fill_error.FillError.FillError, proofs.{Files.there, Lookings.err_is, Readings.{looks_none, looks_on}}}
 use Rattle.base_folder.specs.declared.open_error.OpenError.TheVariants as unread
 use Rattle.base_folder.specs.declared.fill_error.FillError.TheVariants as unfilled
 

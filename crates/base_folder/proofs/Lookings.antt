@@ -1,15 +1,14 @@
 -- A folder after a look: it is readable, or it has a fault. Its log may grow during the look.
 use Rattle.std.{proofs.Common.{◌≡◌, ◌∙◌, ◌-◌, ap, ℕ, Bool, List, length, take, drop, Result, Ok, Err, sym, subst, arith}, specs.Result.{IfErr, IfOk, IsErrAnd}}
-use Rattle.disk_io.specs.{Disk.DiskState, Disk.Files, Disk.Honestly, Runs.ChangesNothing}
-use Rattle.echo_filed.specs.{Filed.Filed, Stored.Stored, Stored.message_in, declared.stored.Version.TheVariants.Second}
+use Rattle.{disk_io.specs.{Disk.{DiskState, Files, Honestly}, Runs.ChangesNothing}, echo_filed.specs.{Filed.Filed, Stored.{Stored, message_in}}}
+use Rattle.{echo_filed.specs.declared.stored.Version.TheVariants.Second, base_log.specs.{Opening.HasFiles, Reading.{IsLogIn, IsRead, ReadsAll}}}
+use Rattle.base_log.specs.{Standing.{BaseBytes, Represents, base_at}, declared.log.{CommitRecord.CommitRecord, End.End, Log.Log}}
+use Rattle.{base_log.proofs.Opened.{has_files, nothing_read}, base_store.specs.declared.store_error.StoreError.StoreError}
+use Rattle.base_folder_store.specs.{Answers.Answers, Opened.{IsFresh, path_of}, Vouched.{HasDigest, HasNone, IsLookedAt, IsThere}}
+use Rattle.{base_folder_store.specs.declared.folder.Folder.Folder, base_folder.specs.{Looked.{IsUnseen, IsUnvouched}, OpenError.{IsWrong, unread_message}}}
+use Rattle.base_folder.{specs.declared.open_error.OpenError.OpenError, proofs.Wrongs.one_end}
 use Rattle.base_file.specs.declared.fault.BaseFault.TheVariants as fault
-use Rattle.base_log.specs.{Opening.HasFiles, Reading.IsLogIn, Reading.IsRead, Reading.ReadsAll, Standing.BaseBytes, Standing.Represents, Standing.base_at, declared.log.CommitRecord.CommitRecord}
-use Rattle.base_log.{specs.declared.log.{End.End, Log.Log}, proofs.Opened.{has_files, nothing_read}}
-use Rattle.base_store.specs.declared.store_error.StoreError.{StoreError}
-use Rattle.base_folder_store.specs.{Answers.Answers, Opened.IsFresh, Opened.path_of, Vouched.HasDigest, Vouched.HasNone, Vouched.IsLookedAt, Vouched.IsThere, declared.folder.Folder.Folder}
-use Rattle.base_folder.specs.{Looked.IsUnseen, Looked.IsUnvouched, OpenError.IsWrong, OpenError.unread_message, declared.open_error.OpenError.OpenError}
 use Rattle.base_folder.specs.declared.open_error.OpenError.TheVariants as unread
-use Rattle.base_folder.proofs.Wrongs.{one_end}
 
 pub err_is : {T E : Type 0} (P : E → Type 0) (e : E) (r : Result T E) → IsErrAnd r (λ x. x ≡ e) → P e → IfErr r P
 err_is P e (Ok x) same is = absurd same

@@ -1,17 +1,16 @@
 -- A folder that is opened after looks that change nothing.
 use Rattle.std.proofs.{Common.{◌≡◌, ◌≢◌, ◌≤◌, ◌<◌, ◌∙◌, ℕ, Bool, List, Result, Ok, Err, inr, sym, ap, subst, arith}, lemmas.Bool.cases_lt}
-use Rattle.std.specs.{Result.IsErrAnd, Prelude.◌⊎◌}
-use Rattle.echo_addr.specs.declared.address.Address.{Address}
-use Rattle.base_file.specs.Base.{Base}
+use Rattle.{std.specs.{Result.IsErrAnd, Prelude.◌⊎◌}, echo_addr.specs.declared.address.Address.Address, base_file.specs.Base.Base}
 use Rattle.disk_io.{specs.{Disk.{DiskState, Files, Honestly, bytes_in}, Runs.{ChangesNothing, LeavesOnly}}, proofs.Moments.{then_run, weaker_run}}
-use Rattle.base_log.specs.{Names.keys_of, Names.log_of, Names.messages_of, Standing.BaseBytes, Standing.Represents, Standing.base_at, declared.log.End.End, declared.log.FolderIdentity.FolderIdentity}
-use Rattle.base_log.specs.{declared.log.CommitRecord.CommitRecord, Opening.RepresentsOrWasLeft, Reading.IsLogIn, Reading.IsRead, declared.log.Log.Log, Moments.KeepsOutside}
-use Rattle.base_log.proofs.{Empty.represented_quiet, Keeping.outside_quiet, Keeping.outside_twice, Opened.base_found, Quiet.base_quiet}
+use Rattle.base_log.specs.{Names.{keys_of, log_of, messages_of}, Standing.{BaseBytes, Represents, base_at}, declared.log.End.End}
+use Rattle.base_log.specs.{declared.log.{FolderIdentity.FolderIdentity, CommitRecord.CommitRecord}, Opening.RepresentsOrWasLeft, Reading.{IsLogIn, IsRead}}
+use Rattle.base_log.{specs.{declared.log.Log.Log, Moments.KeepsOutside}, proofs.{Empty.represented_quiet, Keeping.{outside_quiet, outside_twice}}}
+use Rattle.base_log.proofs.{Opened.base_found, Quiet.base_quiet}
 use Rattle.base_folder_store.specs.Opened.{IsLogOfBase, IsNamed, IsOpen, IsWritten, committed_by, held_by}
-use Rattle.base_folder_store.specs.{Held.HoldsBase, Held.RepresentsBase, Held.RepresentsBaseOrWasLeft, Owned.with_mark, declared.folder.Folder.Folder}
-use Rattle.base_folder_store.proofs.{Claimed.claimed_holds, Claimed.claimed_open, Bases.opened_run, Waits.written_held}
-use Rattle.base_folder.{specs.Ours.{IsLeftAlone, IsMarkOfOther, IsNotOurs, IsOfOther, IsOtherOwner, SameKey, number_of}, proofs.Wrongs.one_end}
-use Rattle.base_folder.specs.{OpenError.HasUnreadCause, declared.open_error.OpenError.OpenError, Unopened.HaveRoom, Unopened.OpensOnly, Wrong.IsRecordedBy}
+use Rattle.base_folder_store.specs.{Held.{HoldsBase, RepresentsBase, RepresentsBaseOrWasLeft}, Owned.with_mark, declared.folder.Folder.Folder}
+use Rattle.base_folder_store.proofs.{Claimed.{claimed_holds, claimed_open}, Bases.opened_run, Waits.written_held}
+use Rattle.base_folder.specs.{Ours.{IsLeftAlone, IsMarkOfOther, IsNotOurs, IsOfOther, IsOtherOwner, SameKey, number_of}, OpenError.HasUnreadCause}
+use Rattle.base_folder.{specs.{declared.open_error.OpenError.OpenError, Unopened.{HaveRoom, OpensOnly}, Wrong.IsRecordedBy}, proofs.Wrongs.one_end}
 use Rattle.base_folder.specs.declared.open_error.OpenError.TheVariants as unread
 
 pub looked_run : (keyed : ℕ → ℕ → List ℕ → ℕ) (path : List ℕ) (d e : DiskState) (base : Base) → ChangesNothing d e → LeavesOnly d e (RepresentsBaseOrWasLeft keyed path d base)

@@ -1,14 +1,12 @@
 -- A message that is read of a base folder is one of the base that the folder holds.
 use Rattle.std.proofs.Common.{◌≡◌, ◌∙◌, ◌<◌, ◌≤◌, ◌+◌, ℕ, List, Result, below_more, Ok, Err, length, get_or, refl, sym, ap, subst, arith, ⊎_elim}
-use Rattle.std.{proofs.lemmas.{Bool.cases_lt, List.length-take}, specs.Prelude.OnOk}
-use Rattle.disk_io.specs.{Disk.DiskState, Disk.Honestly, Disk.bytes_in, Runs.ChangesNothing}
-use Rattle.echo_filed.specs.{Filed.Filed, declared.stored.Version.TheVariants.Second, Stored.Stored, Stored.message_in}
-use Rattle.base_file.specs.Base.{Base}
-use Rattle.base_log.specs.{Names.keys_of, Standing.BaseBytes, Standing.base_at}
-use Rattle.base_store.{specs.Keys.digested, proofs.Recorded.recorded_base_each}
-use Rattle.base_folder_store.specs.{Ahead.AreParts, Ahead.HasParts, Held.HoldsBase, Held.digest_by, Opened.held_by, Opened.path_of, Vouched.HasDigest, Vouched.IsLookedAt, Vouched.IsThere, Vouched.IsVouched, declared.folder.Folder.Folder, declared.read_ahead.Buffers.Buffers}
-use Rattle.base_folder_store.proofs.{Bases.recorded_where, Legible.held_quiet, Legible.keys_all, Legible.legible_quiet, Waits.written_held}
-use Rattle.base_folder.specs.Source.{AreLegibleTo, IsReadable, LooksAt, SeesBase, SourceState}
+use Rattle.{std.{proofs.lemmas.{Bool.cases_lt, List.length-take}, specs.Prelude.OnOk}, disk_io.specs.Disk.{DiskState, Honestly, bytes_in}}
+use Rattle.{disk_io.specs.Runs.ChangesNothing, echo_filed.specs.{Filed.Filed, declared.stored.Version.TheVariants.Second, Stored.{Stored, message_in}}}
+use Rattle.{base_file.specs.Base.Base, base_log.specs.{Names.keys_of, Standing.{BaseBytes, base_at}}, base_store.specs.Keys.digested}
+use Rattle.{base_store.proofs.Recorded.recorded_base_each, base_folder_store.specs.{Ahead.{AreParts, HasParts}, Held.{HoldsBase, digest_by}}}
+use Rattle.base_folder_store.specs.{Opened.{held_by, path_of}, Vouched.{HasDigest, IsLookedAt, IsThere, IsVouched}, declared.folder.Folder.Folder}
+use Rattle.base_folder_store.{specs.declared.read_ahead.Buffers.Buffers, proofs.{Bases.recorded_where, Legible.{held_quiet, keys_all, legible_quiet}}}
+use Rattle.{base_folder_store.proofs.Waits.written_held, base_folder.specs.Source.{AreLegibleTo, IsReadable, LooksAt, SeesBase, SourceState}}
 
 pub record ReadAt (keyed : ℕ → ℕ → List ℕ → ℕ) (bytes : BaseBytes) (base : Base) (i : ℕ) : Type 0 where
   pub s : Stored

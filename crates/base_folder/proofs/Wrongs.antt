@@ -1,9 +1,7 @@
 -- The faults of a folder, and a folder without faults.
-use Rattle.std.proofs.{Common.{◌≡◌, ◌∙◌, ℕ, Bool, List, length, sym, ap, ⊎_elim}, lemmas.Bool.true≢false}
-use Rattle.disk_io.specs.Disk.{Files, bytes_in}
-use Rattle.base_log.specs.{Names.log_of, Log.last_recorded, Log.opened, Reading.ReadsAll, Standing.BaseBytes, Standing.Represents, declared.log.End.End}
-use Rattle.base_log.proofs.{Logs.one_log, Opened.lost_none, Opened.read_log}
-use Rattle.base_folder.specs.Wrong.{IsFolderLog, IsSound, is_foreign}
+use Rattle.{std.proofs.{Common.{◌≡◌, ◌∙◌, ℕ, Bool, List, length, sym, ap, ⊎_elim}, lemmas.Bool.true≢false}, disk_io.specs.Disk.{Files, bytes_in}}
+use Rattle.base_log.specs.{Names.log_of, Log.{last_recorded, opened}, Reading.ReadsAll, Standing.{BaseBytes, Represents}, declared.log.End.End}
+use Rattle.{base_log.proofs.{Logs.one_log, Opened.{lost_none, read_log}}, base_folder.specs.Wrong.{IsFolderLog, IsSound, is_foreign}}
 
 pub one_end : (log : List ℕ) (one other : End) → ReadsAll log one → ReadsAll log other → one ≡ other
 one_end log one other first next =

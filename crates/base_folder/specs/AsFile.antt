@@ -1,12 +1,9 @@
 -- The base file of the messages of a base folder.
-use Rattle.std.specs.Prelude.{◌≡◌, ℕ, false}
-use Rattle.disk_io.specs.Device.{Failed}
-use Rattle.base_file.specs.{Base.Base, BaseFile.is_countable, declared.fault.BaseFault.BaseFault}
+use Rattle.{std.specs.Prelude.{◌≡◌, ℕ, false}, disk_io.specs.Device.Failed, base_file.specs.{Base.Base, BaseFile.is_countable}}
+use Rattle.{base_file.specs.declared.fault.BaseFault.BaseFault, base_store.specs.declared.store_error.StoreError.StoreError}
+use Rattle.{echo_filed.specs.Stored.{Stored, is_short_enough}, base_folder.specs.declared.send_error.SendError.SendError}
 use Rattle.base_file.specs.declared.fault.BaseFault.TheVariants as fault
-use Rattle.base_store.specs.declared.store_error.StoreError.{StoreError}
 use Rattle.base_store.specs.declared.store_error.StoreError.TheVariants as error
-use Rattle.echo_filed.specs.Stored.{Stored, is_short_enough}
-use Rattle.base_folder.specs.declared.send_error.SendError.{SendError}
 use Rattle.base_folder.specs.declared.send_error.SendError.TheVariants as unsent
 
 -- Memory ran out, four bytes can't count the parts of the base, or a read failed.

@@ -1,16 +1,15 @@
 -- Filling a base folder with messages.
 use Rattle.std.specs.Prelude.{◌≡◌, ◌≤◌, ◌<◌, ◌⊎◌, ℕ, ◌+◌, ◌/◌, Bool, List, [], false, length, take, Some, slice_get, Result, IfErr, IsErrOf, OnOk}
-use Rattle.std.specs.List.{AllByRecursion, flat_map}
-use Rattle.base_file.specs.{Base.Base, Base.IsBase, Base.is_known, Alone.MayStandAlone}
-use Rattle.echo_filed.specs.{Filed.Filed, Filed.key_of, Stored.IsStored, Stored.Stored, Stored.stored_bytes, declared.stored.Version.TheVariants.Second}
-use Rattle.base_log.specs.{Moments.SameOutside, Names.log_of, Standing.BaseBytes, Standing.Represents, declared.log.CommitRecord.CommitRecord, declared.log.FolderIdentity.FolderIdentity}
-use Rattle.disk_io.specs.{Device.Failed, Disk.DiskState, Disk.Files, Disk.Honestly, Disk.bytes_in, Runs.LeavesOnly}
-use Rattle.base_folder_store.specs.Opened.{IsNamed, IsOpen, committed_by, held_by, path_of}
-use Rattle.base_folder_store.specs.{Added.HasRoomFor, Added.IsFull, Calls.StagesOnly, Held.HoldsBase, Held.RepresentsBase, Held.RepresentsBaseOrWasLeft, Held.digest_by, declared.folder.Folder.Folder}
+use Rattle.{std.specs.List.{AllByRecursion, flat_map}, base_file.specs.{Base.{Base, IsBase, is_known}, Alone.MayStandAlone}}
+use Rattle.echo_filed.specs.{Filed.{Filed, key_of}, Stored.{IsStored, Stored, stored_bytes}, declared.stored.Version.TheVariants.Second}
+use Rattle.base_log.specs.{Moments.SameOutside, Names.log_of, Standing.{BaseBytes, Represents}, declared.log.CommitRecord.CommitRecord}
+use Rattle.{base_log.specs.declared.log.FolderIdentity.FolderIdentity, disk_io.specs.{Device.Failed, Disk.{DiskState, Files, Honestly, bytes_in}}}
+use Rattle.{disk_io.specs.Runs.LeavesOnly, base_folder_store.specs.{Opened.{IsNamed, IsOpen, committed_by, held_by, path_of}, Added.{HasRoomFor, IsFull}}}
+use Rattle.base_folder_store.specs.{Calls.StagesOnly, Held.{HoldsBase, RepresentsBase, RepresentsBaseOrWasLeft, digest_by}, declared.folder.Folder.Folder}
+use Rattle.{base_store.specs.{Keys.keys_from, Store.with_message, declared.store_error.StoreError.StoreError}, base_folder.specs.OpenError.IsWrong}
+use Rattle.base_folder.specs.{Source.{LooksAt, SourceState}, Wrong.IsRecordedBy, declared.{open_error.OpenError.OpenError, fill_error.FillError.FillError}}
 use Rattle.base_file.specs.declared.fault.BaseFault.TheVariants as fault
-use Rattle.base_store.specs.{Keys.keys_from, Store.with_message, declared.store_error.StoreError.StoreError}
 use Rattle.base_store.specs.declared.store_error.StoreError.TheVariants as error
-use Rattle.base_folder.specs.{OpenError.IsWrong, Source.LooksAt, Source.SourceState, Wrong.IsRecordedBy, declared.open_error.OpenError.OpenError, declared.fill_error.FillError.FillError}
 use Rattle.base_folder.specs.declared.open_error.OpenError.TheVariants as unread
 use Rattle.base_folder.specs.declared.fill_error.FillError.TheVariants as unfilled
 

@@ -1,10 +1,9 @@
 -- A base folder after a look.
-use Rattle.std.specs.Prelude.{◌≡◌, ◌≤◌, ◌<◌, ◌/◌, ℕ, Bool, List, length, take}
-use Rattle.disk_io.specs.Disk.{DiskState, Files, bytes_in}
+use Rattle.{std.specs.Prelude.{◌≡◌, ◌≤◌, ◌<◌, ◌/◌, ℕ, Bool, List, length, take}, disk_io.specs.Disk.{DiskState, Files, bytes_in}, base_log.specs.Names.log_of}
+use Rattle.base_log.specs.{Standing.{BaseBytes, Represents}, Reading.{IsRead, ReadsAll}, declared.log.{End.End, Log.Log}}
+use Rattle.{base_folder_store.specs.{Opened.held_by, Vouched.{HasNone, IsVouched}, declared.folder.Folder.Folder}, base_folder.specs.OpenError.IsWrong}
+use Rattle.base_folder.specs.declared.{looking.LookedFolder.LookedFolder, open_error.OpenError.OpenError}
 use Rattle.base_file.specs.declared.fault.BaseFault.TheVariants as base
-use Rattle.base_log.specs.{Names.log_of, Standing.BaseBytes, Standing.Represents, Reading.IsRead, Reading.ReadsAll, declared.log.End.End, declared.log.Log.Log}
-use Rattle.base_folder_store.specs.{Opened.held_by, Vouched.HasNone, Vouched.IsVouched, declared.folder.Folder.Folder}
-use Rattle.base_folder.specs.{OpenError.IsWrong, declared.looking.LookedFolder.LookedFolder, declared.open_error.OpenError.OpenError}
 use Rattle.base_folder.specs.declared.open_error.OpenError.TheVariants as unread
 
 -- The log was read to the end of its last record, and the bytes include that record.

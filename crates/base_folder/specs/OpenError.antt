@@ -1,13 +1,11 @@
 -- Why a base folder is not read or opened.
-use Rattle.std.specs.Prelude.{◌≡◌, ◌≤◌, ℕ, Bool, List, Result, IsErrOf}
+use Rattle.{std.specs.Prelude.{◌≡◌, ◌≤◌, ℕ, Bool, List, Result, IsErrOf}, base_store.specs.declared.store_error.StoreError.StoreError}
+use Rattle.{disk_io.specs.{Device.Failed, Disk.Files, declared.disk_error.DiskError.DiskError}, cmd_status.specs.declared.fault.Fault.Fault}
+use Rattle.base_folder.specs.{Wrong.{IsCutShort, IsNoFolder}, declared.open_error.OpenError.OpenError}
 use Rattle.base_file.specs.declared.fault.BaseFault.TheVariants as base
-use Rattle.base_store.specs.declared.store_error.StoreError.{StoreError}
 use Rattle.base_store.specs.declared.store_error.StoreError.TheVariants as store
-use Rattle.disk_io.specs.{Device.Failed, Disk.Files, declared.disk_error.DiskError.DiskError}
 use Rattle.disk_io.specs.declared.disk_error.DiskError.TheVariants as disk
-use Rattle.cmd_status.specs.declared.fault.Fault.{Fault}
 use Rattle.cmd_status.specs.declared.fault.Fault.TheVariants as fault
-use Rattle.base_folder.specs.{Wrong.IsCutShort, Wrong.IsNoFolder, declared.open_error.OpenError.OpenError}
 use Rattle.base_folder.specs.declared.open_error.OpenError.TheVariants as unread
 
 abbrev pub unread_cause : DiskError → OpenError

@@ -1,12 +1,8 @@
 -- A base folder after opening it.
-use Rattle.std.specs.Prelude.{◌≡◌, ◌<◌, ◌^◌, ℕ, List}
-use Rattle.base_file.specs.Base.{Base}
-use Rattle.base_log.specs.Moments.{KeepsOutside}
-use Rattle.disk_io.specs.{Disk.DiskState, Disk.Honestly, Runs.LeavesOnly}
-use Rattle.echo_addr.specs.declared.address.Address.{Address}
-use Rattle.base_folder_store.specs.{Held.HoldsBase, Held.RepresentsBase, Held.RepresentsBaseOrWasLeft, Opened.committed_by, Opened.held_by, Opened.path_of, State.IsUsable}
-use Rattle.base_folder_store.specs.declared.folder.Folder.{Folder}
-use Rattle.base_folder.specs.Ours.{HasGivenKey, number_of}
+use Rattle.{std.specs.Prelude.{◌≡◌, ◌<◌, ◌^◌, ℕ, List}, base_file.specs.Base.Base, base_log.specs.Moments.KeepsOutside}
+use Rattle.{disk_io.specs.{Disk.{DiskState, Honestly}, Runs.LeavesOnly}, echo_addr.specs.declared.address.Address.Address}
+use Rattle.base_folder_store.specs.{Held.{HoldsBase, RepresentsBase, RepresentsBaseOrWasLeft}, Opened.{committed_by, held_by, path_of}, State.IsUsable}
+use Rattle.{base_folder_store.specs.declared.folder.Folder.Folder, base_folder.specs.Ours.{HasGivenKey, number_of}}
 
 -- Each digest fits in eight bytes.
 abbrev pub HaveRoom : (ℕ → ℕ → List ℕ → ℕ) → Type 0

@@ -1,13 +1,9 @@
 //! A base folder filled with messages that are read one by one.
-ghost use Rattle.std.specs.Prelude.{◌≡◌, ◌≢◌, ◌≤◌, ◌<◌, ◌+◌, ◌-◌, ℕ, IfErr, IsErrOf, OnOk, Some, slice_get};
-ghost use Rattle.base_file.specs.Base.{Base};
-ghost use Rattle.disk_io.specs.Disk.{Honestly};
-ghost use Rattle.base_log.specs.{Moments.KeepsOutside, Opening.AreAlone};
-ghost use Rattle.echo_filed.specs.Filed.{Filed as TheMessage};
-ghost use Rattle.base_folder_store.specs.{Added.HasRoomFor, Answers.HasReadCause, Held.HoldsBase, Held.RepresentsBase, Opened.committed_by, Opened.held_by, Opened.path_of, Owned.IsUnclaimed, Owned.with_mark};
-ghost use Rattle.base_folder_store.specs.State.{IsUsable};
+ghost use Rattle.{std.specs.Prelude.{◌≡◌, ◌≢◌, ◌≤◌, ◌<◌, ◌+◌, ◌-◌, ℕ, IfErr, IsErrOf, OnOk, Some, slice_get}, base_file.specs.Base.Base, disk_io.specs.Disk.Honestly};
+ghost use Rattle.{base_log.specs.{Moments.KeepsOutside, Opening.AreAlone}, echo_filed.specs.Filed.Filed as TheMessage, base_folder_store.specs.Added.HasRoomFor};
+ghost use Rattle.base_folder_store.specs.{Answers.HasReadCause, Held.{HoldsBase, RepresentsBase}, Opened.{committed_by, held_by, path_of}};
+ghost use Rattle.{base_folder_store.specs.{Owned.{IsUnclaimed, with_mark}, State.IsUsable}, base_folder.specs.Ours.SameKey};
 ghost use Rattle.base_folder.specs.Filled.{AddsOnly, FillsAllOrNothing, FillsIfEmpty, FillsOnly, HasFillCause, HasMark, HasUnfilledCause, HoldsFront, HoldsMany, HoldsMore, IsFilledFull, IsKept, IsUnfilled, ReadsFor, ShowsBase, RepresentsNoneOr, drawn_mark, no_messages};
-ghost use Rattle.base_folder.specs.Ours.{SameKey};
 
 use crate::as_file::fault_of;
 use crate::fill_error::FillError;

@@ -1,8 +1,6 @@
-ghost use Rattle.std.specs.Prelude.{◌≡◌, ◌⊎◌, IfErr, IfOk, Some};
-ghost use Rattle.disk_io.specs.Disk.{Honestly};
+ghost use Rattle.{std.specs.Prelude.{◌≡◌, ◌⊎◌, IfErr, IfOk, Some}, disk_io.specs.Disk.Honestly, base_folder_store.specs.Held.{HoldsBase, RepresentsBase}};
+ghost use Rattle.{base_folder_store.specs.{Opened.held_by, Vouched.IsLookedAt}, cmd_status.specs.{Ended.IsOutOfMemory, Inputs.{IsBaseFault, IsBaseGiven}}};
 ghost use Rattle.base_file.specs.Base as model;
-ghost use Rattle.base_folder_store.specs.{Held.HoldsBase, Held.RepresentsBase, Opened.held_by, Vouched.IsLookedAt};
-ghost use Rattle.cmd_status.specs.{Ended.IsOutOfMemory, Inputs.IsBaseFault, Inputs.IsBaseGiven};
 
 use crate::looking::look;
 use crate::open_error::OpenError;

@@ -1,14 +1,10 @@
 -- The answer of `check --all`, from those of its parts.
 use Rattle.std.proofs.Common.{◌≡◌, ◌+◌, ◌++◌, ◌<◌, ◌∙◌, ◌∷◌, [], ap, append-nil, append_assoc, arith, Bool, Contains, get_or, length, List, map, Ok, Option, refl, Result, subst, sym, take, ℕ}
-use Rattle.std.proofs.lemmas.{Bool.ne_eqb, List.get_or_default, List.map-append, List.take_more, List.Elements.All-from_recursion, List.Elements.recursion_from_All}
-use Rattle.std.specs.List.{AllByRecursion}
-use Rattle.cmd_status.specs.{Devices.Output, declared.fault.Fault.Fault, declared.status.Status.Status, declared.status.Status.TheVariants.Good, Inputs.AreLinkFiles, Inputs.IsNodelistGiven}
-use Rattle.echo_links.specs.Links.{LinkFile}
-use Rattle.echo_nodelist.specs.declared.line.Line.{Line}
-use Rattle.model_run.specs.{Tidy.Tidy, AnyState.NewMessagesAreInOrder}
-use Rattle.echo_net.specs.{declared.verdict.Verdict.Verdict, declared.verdict.Verdict.TheVariants.Yes, declared.verdict.Verdict.TheVariants.No, Faults.IsCarried, Faults.IsYes}
-use Rattle.cmd_status.proofs.Lines.{alone}
-use Rattle.cmd_print.specs.Pushed.{Pushes}
+use Rattle.std.proofs.lemmas.{Bool.ne_eqb, List.{get_or_default, map-append, take_more, Elements.{All-from_recursion, recursion_from_All}}}
+use Rattle.{std.specs.List.AllByRecursion, cmd_status.specs.{Devices.Output, declared.{fault.Fault.Fault, status.Status.{Status, TheVariants.Good}}}}
+use Rattle.{cmd_status.{specs.Inputs.{AreLinkFiles, IsNodelistGiven}, proofs.Lines.alone}, echo_links.specs.Links.LinkFile}
+use Rattle.{echo_nodelist.specs.declared.line.Line.Line, model_run.specs.{Tidy.Tidy, AnyState.NewMessagesAreInOrder}}
+use Rattle.{echo_net.specs.{declared.verdict.Verdict.{Verdict, TheVariants.{Yes, No}}, Faults.{IsCarried, IsYes}}, cmd_print.specs.Pushed.Pushes}
 use Rattle.cmd_check.specs.CheckingAll.{AreAreasChecked, AreEachChecked, CheckAllAnswers, IsAllChecked, IsAreaChecked, no_count, verdicts_status}
 use Rattle.cmd_check.{specs.{AreaTags.AreAllTags, Checking.IsCheckVerdict, Further.{IsVerdictShown, areas_line}}, proofs.Checks.one_reading}
 

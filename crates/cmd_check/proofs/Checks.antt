@@ -1,13 +1,9 @@
 -- The answer of `check`, from those of its parts.
-use Rattle.std.proofs.Common.{◌≡◌, ℕ, Bool, List, [], ◌∷◌, Option, Result, Ok, refl, sym, ap, subst, ◌∙◌, arith}
-use Rattle.cmd_status.specs.{Devices.Output, declared.fault.Fault.Fault, declared.status.Status.Status, declared.status.Status.TheVariants.Good, Inputs.AreLinkFiles, Inputs.IsNodelistGiven}
-use Rattle.echo_links.specs.Links.{LinkFile, upper}
-use Rattle.echo_nodelist.specs.declared.line.Line.{Line}
-use Rattle.model_run.specs.{Tidy.Tidy, AnyState.NewMessagesAreInOrder}
-use Rattle.echo_net.specs.{declared.verdict.Verdict.Verdict, declared.verdict.Verdict.TheVariants.Yes, declared.verdict.Verdict.TheVariants.No, Faults.IsYes}
-use Rattle.cmd_check.specs.{Checking.CheckAnswers, Checking.IsChecked, Checking.IsCheckVerdict, Checking.verdict_status, Further.IsVerdictShown}
-use Rattle.cmd_print.specs.Pushed.{Pushes}
-use Rattle.cmd_status.proofs.Lines.{alone}
+use Rattle.{std.proofs.Common.{◌≡◌, ℕ, Bool, List, [], ◌∷◌, Option, Result, Ok, refl, sym, ap, subst, ◌∙◌, arith}, cmd_status.specs.Devices.Output}
+use Rattle.cmd_status.specs.{declared.{fault.Fault.Fault, status.Status.{Status, TheVariants.Good}}, Inputs.{AreLinkFiles, IsNodelistGiven}}
+use Rattle.{cmd_status.proofs.Lines.alone, echo_links.specs.Links.{LinkFile, upper}, echo_nodelist.specs.declared.line.Line.Line, model_run.specs.Tidy.Tidy}
+use Rattle.{model_run.specs.AnyState.NewMessagesAreInOrder, echo_net.specs.{declared.verdict.Verdict.{Verdict, TheVariants.{Yes, No}}, Faults.IsYes}}
+use Rattle.{cmd_check.specs.{Checking.{CheckAnswers, IsChecked, IsCheckVerdict, verdict_status}, Further.IsVerdictShown}, cmd_print.specs.Pushed.Pushes}
 
 -- a yes has the status 0, and only a yes
 pub good_is_yes : (v : Verdict) → verdict_status v ≡ Good → IsYes v

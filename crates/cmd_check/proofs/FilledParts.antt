@@ -1,14 +1,11 @@
 -- The lines of a drawing with its parts.
 use Rattle.std.proofs.Common.{◌≡◌, Bool, true, false, subst, ℕ, ◌+◌, ◌-◌, ◌%◌, ◌<◌, List, [], ◌∷◌, ◌++◌, codes, length, length-append, take, get_or, refl, sym, ap, ◌∙◌, arith, append_assoc, append-nil}
-use Rattle.std.{proofs.lemmas.List.{length-take-le, take_more}, specs.List.flat_map}
-use Rattle.echo_addr.specs.declared.address.Address.{Address}
-use Rattle.echo_links.specs.Links.{LinkFile}
-use Rattle.echo_net.specs.{declared.{drawing.Drawing.Drawing, verdict.Verdict.Verdict}, Drawn.IsDrawing}
-use Rattle.cmd_suppose.specs.Parts.{AreCutOff}
-use Rattle.cmd_status.{specs.declared.status.Status.{Status, TheVariants.Good}, proofs.Lines.alone}
+use Rattle.{std.{proofs.lemmas.List.{length-take-le, take_more}, specs.List.flat_map}, echo_addr.specs.declared.address.Address.Address}
+use Rattle.{echo_links.specs.Links.LinkFile, echo_net.specs.{declared.{drawing.Drawing.Drawing, verdict.Verdict.Verdict}, Drawn.IsDrawing}}
+use Rattle.{cmd_suppose.specs.Parts.AreCutOff, cmd_status.{specs.declared.status.Status.{Status, TheVariants.Good}, proofs.Lines.alone}}
 use Rattle.cmd_print.specs.{Pushed.Pushes, Pictured.{head_lines, link_line, picture_lines, system_line}}
-use Rattle.cmd_check.{specs.{Checking.{IsCheckVerdict, verdict_status}, JudgedAreas.alone_line}, proofs.Checks.{good_is_yes, yes_is_good}}
-use Rattle.cmd_check.specs.PicturingParts.{IsLeftDrawn, IsPartsDrawn, filled_line, filled_lines, picture_front}
+use Rattle.cmd_check.specs.{Checking.{IsCheckVerdict, verdict_status}, JudgedAreas.alone_line}
+use Rattle.cmd_check.{specs.PicturingParts.{IsLeftDrawn, IsPartsDrawn, filled_line, filled_lines, picture_front}, proofs.Checks.{good_is_yes, yes_is_good}}
 
 filled_last : (k n : ℕ) (parts : List (List Address)) (part : List Address) → n ≡ k + length parts
     → filled_lines k (parts ++ part ∷ []) ≡ filled_lines k parts ++ flat_map (filled_line (n % 9 + 1)) part

@@ -1,19 +1,15 @@
 -- The lines of a net with supposed and left out systems, from those of their parts.
 use Rattle.std.proofs.Common.{◌≡◌, ◌⊎◌, inl, inr, ℕ, ◌&&◌, Bool, true, false, List, [], ◌∷◌, ◌++◌, Contains, length, Option, None, Ok, Err, Result, is_none, refl, sym, ap, subst, ◌∙◌, arith, append_assoc, append-nil}
-use Rattle.std.specs.List.{AllZip, count_by, flat_map}
-use Rattle.echo_addr.specs.declared.address.Address.{Address}
-use Rattle.echo_links.specs.Links.{LinkFile}
-use Rattle.echo_nodelist.specs.declared.line.Line.{Line}
-use Rattle.model_run.specs.{Tidy.Tidy, AnyState.NewMessagesAreInOrder}
-use Rattle.cmd_status.specs.{Devices.Output, declared.fault.Fault.Fault, declared.status.Status.Status, declared.status.Status.TheVariants.Good, Ended.Answers, Ended.IsOutOfMemory, Inputs.AreLinkFiles, Inputs.IsFirstFaultGiven, Inputs.IsLinkFault, Inputs.IsNodelistGiven}
-use Rattle.cmd_status.proofs.Lines.{alone}
-use Rattle.cmd_print.specs.Pushed.{Pushes}
+use Rattle.{std.specs.List.{AllZip, count_by, flat_map}, echo_addr.specs.declared.address.Address.Address, echo_links.specs.Links.LinkFile}
+use Rattle.{echo_nodelist.specs.declared.line.Line.Line, model_run.specs.{Tidy.Tidy, AnyState.NewMessagesAreInOrder}, cmd_status.specs.Devices.Output}
+use Rattle.cmd_status.specs.{declared.{fault.Fault.Fault, status.Status.{Status, TheVariants.Good}}, Ended.{Answers, IsOutOfMemory}}
+use Rattle.{cmd_status.{specs.Inputs.{AreLinkFiles, IsFirstFaultGiven, IsLinkFault, IsNodelistGiven}, proofs.Lines.alone}, cmd_print.specs.Pushed.Pushes}
 use Rattle.cmd_check.specs.{CheckingAll.{IsAreaChecked, verdicts_status}, declared.supposing.Judged.{Judged, TheVariants.{Ended, Unknown}}}
-use Rattle.cmd_suppose.specs.{Assuming.assumed_line, Leaving.first_unknown, Leaving.texts_left, Parts.AreCutOff}
 use Rattle.cmd_check.specs.JudgedAreas.{AreAreasJudged, AreCutWithout, AreNetLines, AreTailLines, CutsShown, IsAreaJudged, IsVerdictLeft, JudgedNet, alone_line, cut_line, is_alone, judged_areas_line, tail_lines, without_line}
-use Rattle.cmd_suppose.specs.SupposedFiles.{AreSupposed, AreUnseen, IsSupposedFile, ReadsSupposed, supposed_here, unseen_line}
 use Rattle.cmd_check.specs.Supposing.{AreJudgedTags, EndsOrUnknown, IsFirstUnknown, IsJudged, IsJudgingFault, IsKnownFault, IsKnownJudged, IsLeftShown, IsNetShown, IsPromisedSupposing, IsSupposingShown, IsWhole, IsWrittenFault, SupposingAnswers, ended_as}
 use Rattle.cmd_check.proofs.{Checks.one_reading, Printing.answers_as, AllAreas.{all_yes, area_in_order, area_tidy, each_tag, in_order, of_tag, status_good}}
+use Rattle.cmd_suppose.specs.{Assuming.assumed_line, Leaving.{first_unknown, texts_left}, Parts.AreCutOff}
+use Rattle.cmd_suppose.specs.SupposedFiles.{AreSupposed, AreUnseen, IsSupposedFile, ReadsSupposed, supposed_here, unseen_line}
 
 module _ (net : JudgedNet) (list : Option (List Line)) (more listed : Bool) where
   -- all lines of an area

@@ -1,6 +1,5 @@
 -- The answer after a part of a command prints its lines.
-use Rattle.std.proofs.Common.{ℕ, List, Result, arith}
-use Rattle.cmd_status.specs.{Devices.Output, declared.fault.Fault.Fault, Ended.Answers}
+use Rattle.{std.proofs.Common.{ℕ, List, Result, arith}, cmd_status.specs.{Devices.Output, declared.fault.Fault.Fault, Ended.Answers}}
 
 -- the lines of the part are those of the command
 pub printed_as : {A : Type 0} (IsPart IsWhole : List ℕ → A → Type 0) (IsRefused : Fault → Type 0) (old new : Output) (answer : Result A Fault)

@@ -1,13 +1,10 @@
 -- The answer of `check`.
-use Rattle.std.specs.Prelude.{◌≡◌, ℕ, ◌↔◌, Bool, List, Option, None, Result}
-use Rattle.cmd_status.specs.{Devices.Output, declared.fault.Fault.Fault, declared.status.Status.Status, declared.status.Status.TheVariants.Good, declared.status.Status.TheVariants.Differs}
-use Rattle.cmd_status.specs.{Ended.Answers, Inputs.AreLinkFiles, Inputs.IsFirstFaultGiven, Inputs.IsNodelistGiven}
-use Rattle.echo_links.specs.Links.{LinkFile, upper}
-use Rattle.echo_nodelist.specs.declared.line.Line.{Line}
-use Rattle.model_run.specs.{AnyState.NewMessagesAreInOrder, Tidy.Tidy}
-use Rattle.echo_net.specs.declared.verdict.Verdict.{Verdict, TheVariants.Yes, TheVariants.No}
-use Rattle.echo_net.specs.{Faults.IfNo, Faults.IfYes, Faults.IsFirstFault, Faults.IsYes, Nets.carrier_count, Nets.linked_pairs}
-use Rattle.cmd_check.specs.Further.{IsVerdictShown}
+use Rattle.{std.specs.Prelude.{◌≡◌, ℕ, ◌↔◌, Bool, List, Option, None, Result}, cmd_status.specs.{Devices.Output, declared.fault.Fault.Fault}}
+use Rattle.cmd_status.specs.{declared.status.Status.{Status, TheVariants.{Good, Differs}}, Ended.Answers}
+use Rattle.{cmd_status.specs.Inputs.{AreLinkFiles, IsFirstFaultGiven, IsNodelistGiven}, echo_links.specs.Links.{LinkFile, upper}}
+use Rattle.{echo_nodelist.specs.declared.line.Line.Line, model_run.specs.{AnyState.NewMessagesAreInOrder, Tidy.Tidy}}
+use Rattle.echo_net.specs.{declared.verdict.Verdict.{Verdict, TheVariants.{Yes, No}}, Faults.{IfNo, IfYes, IsFirstFault, IsYes}}
+use Rattle.{echo_net.specs.Nets.{carrier_count, linked_pairs}, cmd_check.specs.Further.IsVerdictShown}
 
 -- 1 for a no.
 abbrev pub verdict_status : Verdict → Status

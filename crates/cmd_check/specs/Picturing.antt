@@ -1,11 +1,8 @@
 -- The answer of `picture`.
-use Rattle.std.specs.Prelude.{◌≡◌, ℕ, ◌↔◌, List, [], Option, None, Result}
-use Rattle.cmd_status.specs.{Devices.Output, declared.fault.Fault.Fault, declared.status.Status.Status, declared.status.Status.TheVariants.Good, Ended.Answers}
-use Rattle.cmd_status.specs.Inputs.{AreLinkFiles, IsFirstFaultGiven}
-use Rattle.echo_links.specs.Links.{LinkFile, upper}
-use Rattle.model_run.specs.Tidy.{Tidy}
-use Rattle.echo_net.specs.{declared.drawing.Crossing.Crossing, declared.drawing.Drawing.Drawing, declared.verdict.Verdict.Verdict, Drawn.IsDrawing}
-use Rattle.cmd_check.specs.Checking.{IsCheckVerdict, verdict_status}
+use Rattle.{std.specs.Prelude.{◌≡◌, ℕ, ◌↔◌, List, [], Option, None, Result}, cmd_status.specs.{Devices.Output, declared.fault.Fault.Fault}}
+use Rattle.cmd_status.specs.{declared.status.Status.{Status, TheVariants.Good}, Ended.Answers, Inputs.{AreLinkFiles, IsFirstFaultGiven}}
+use Rattle.{echo_links.specs.Links.{LinkFile, upper}, model_run.specs.Tidy.Tidy, echo_net.specs.declared.drawing.{Crossing.Crossing, Drawing.Drawing}}
+use Rattle.{echo_net.specs.{declared.verdict.Verdict.Verdict, Drawn.IsDrawing}, cmd_check.specs.Checking.{IsCheckVerdict, verdict_status}}
 use Rattle.cmd_print.specs.Pictured.{picture_lines}
 
 -- The link files have no fault. These lines draw the area of the tag in upper case, with the parts of the verdict

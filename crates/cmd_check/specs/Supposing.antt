@@ -1,14 +1,11 @@
 -- The answer of `check` with supposed systems, and with left out ones.
 use Rattle.std.specs.{Prelude.{◌≡◌, ◌↔◌, ◌⊎◌, ℕ, Bool, false, List, [], ◌∷◌, Contains, filter, is_none, Option, Some, None, Result, Ok, Err}, List.AllZip}
-use Rattle.echo_addr.specs.declared.address.Address.{Address}
-use Rattle.echo_links.specs.Links.{LinkFile, upper}
-use Rattle.echo_nodelist.specs.declared.line.Line.{Line}
-use Rattle.model_run.specs.{Tidy.Tidy, AnyState.NewMessagesAreInOrder}
-use Rattle.cmd_status.specs.{Devices.Output, declared.fault.Fault.Fault, declared.status.Status.Status, declared.status.Status.TheVariants.Good}
-use Rattle.cmd_status.specs.{Ended.Answers, Inputs.AreLinkFiles, Inputs.IsFirstFaultGiven, Inputs.IsLinkFault, Inputs.IsNodelistGiven}
+use Rattle.{echo_addr.specs.declared.address.Address.Address, echo_links.specs.Links.{LinkFile, upper}, echo_nodelist.specs.declared.line.Line.Line}
+use Rattle.{model_run.specs.{Tidy.Tidy, AnyState.NewMessagesAreInOrder}, cmd_status.specs.{Devices.Output, declared.{fault.Fault.Fault, status.Status.Status}}}
+use Rattle.cmd_status.specs.{declared.status.Status.TheVariants.Good, Ended.Answers, Inputs.{AreLinkFiles, IsFirstFaultGiven, IsLinkFault, IsNodelistGiven}}
 use Rattle.cmd_check.specs.{AreaTags.AreAllTags, CheckingAll.verdicts_status, JudgedAreas.{AreNetLines, JudgedNet, is_alone, judged_net}}
+use Rattle.cmd_check.specs.declared.supposing.Judged.{Judged, TheVariants.{Ended, Unknown}}
 use Rattle.cmd_suppose.specs.{Leaving.{AreLeft, first_unknown, is_judged, texts_left}, SupposedFiles.{AreSupposed, IsSupposedFile, ReadsSupposed}}
-use Rattle.cmd_check.specs.declared.supposing.Judged.{Judged, TheVariants.Ended, TheVariants.Unknown}
 
 -- The judged areas: that of the tag, or those of all that a file has that concern the left out systems.
 abbrev pub AreJudgedTags : List LinkFile → Option (List ℕ) → List Address → List (List ℕ) → Type 0

@@ -1,11 +1,8 @@
 //! What `check` answers.
-ghost use Rattle.std.specs.Prelude.{◌≡◌, ℕ, List, None, Ok, OnOk, Option, option_copied};
-ghost use Rattle.cmd_status.specs.{Devices.output_of, declared.status.Status.TheVariants.Good, Inputs.AreLinkFiles, Inputs.IsNodelistGiven};
-ghost use Rattle.echo_links.specs.Links.{LinkFile, upper};
-ghost use Rattle.model_run.specs.{Tidy.Tidy, AnyState.NewMessagesAreInOrder};
-ghost use Rattle.echo_net.specs.Faults.{IfNo, IsFirstFault};
-ghost use Rattle.cmd_check.specs.{Checking.CheckAnswers, Checking.verdict_status, Further.IsVerdictShown};
-ghost use Rattle.cmd_print.specs.Pushed.{Pushes};
+ghost use Rattle.{std.specs.Prelude.{◌≡◌, ℕ, List, None, Ok, OnOk, Option, option_copied}, cmd_status.specs.Devices.output_of};
+ghost use Rattle.{cmd_status.specs.{declared.status.Status.TheVariants.Good, Inputs.{AreLinkFiles, IsNodelistGiven}}, echo_links.specs.Links.{LinkFile, upper}};
+ghost use Rattle.{model_run.specs.{Tidy.Tidy, AnyState.NewMessagesAreInOrder}, echo_net.specs.Faults.{IfNo, IsFirstFault}};
+ghost use Rattle.{cmd_check.specs.{Checking.{CheckAnswers, verdict_status}, Further.IsVerdictShown}, cmd_print.specs.Pushed.Pushes};
 
 use crate::further_text::push_further;
 use cmd_print::{push_absences, push_verdict};

@@ -1,12 +1,9 @@
 //! The lines of `check` with `--assume`, `--assume-missing` and `--without`.
 ghost use Rattle.std.specs.{Prelude.{◌≡◌, ◌≤◌, ◌++◌, ◌&&◌, List, IfOk, OnOk, length, option_copied}, List.{AllZip, count_by, flat_map}};
-ghost use Rattle.echo_links.specs.Links.{LinkFile};
-ghost use Rattle.cmd_status.specs.{Devices.output_of};
-ghost use Rattle.cmd_print.specs.Pushed.{Pushes};
-ghost use Rattle.cmd_check.specs.CheckingAll.{IsAreaChecked};
+ghost use Rattle.{echo_links.specs.Links.LinkFile, cmd_status.specs.Devices.output_of, cmd_print.specs.Pushed.Pushes, cmd_check.specs.CheckingAll.IsAreaChecked};
 ghost use Rattle.cmd_check.specs.JudgedAreas.{AreAreasJudged, AreNetLines, AreTailLines, CutsShown, IsAreaJudged, IsVerdictLeft, PrintsSupposed, alone_line, cut_line, judged_areas_line, judged_net, supposed_notes, without_line, without_note};
-ghost use Rattle.cmd_check.specs.JudgedAreas as judged;
 ghost use Rattle.cmd_suppose.specs.{Listings.IsListing, SupposedFiles.unseen_note};
+ghost use Rattle.cmd_check.specs.JudgedAreas as judged;
 
 use crate::checking::push_check;
 use crate::checking_all::no_count;

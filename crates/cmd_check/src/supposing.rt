@@ -1,10 +1,9 @@
 //! What `check` answers with several assumed systems, and with `--without`.
 ghost use Rattle.std.specs.{Prelude.{◌≡◌, ◌∷◌, [], List, None, Ok, IfOk, filter, is_none, length, map, option_copied}, List.AllZip};
-ghost use Rattle.echo_links.specs.Links.{LinkFile, upper};
-ghost use Rattle.cmd_status.specs.{Devices.output_of, declared.status.Status.TheVariants.Good, Ended.Answers, Inputs.AreLinkFiles, Inputs.IsLinkFault};
-ghost use Rattle.cmd_check.specs.{JudgedAreas.judged_net, declared.supposing.Judged.TheVariants.Ended};
-ghost use Rattle.cmd_suppose.specs.{Leaving.is_judged, Leaving.texts_left, Listings.IsListing};
+ghost use Rattle.{echo_links.specs.Links.{LinkFile, upper}, cmd_status.specs.{Devices.output_of, declared.status.Status.TheVariants.Good, Ended.Answers}};
+ghost use Rattle.{cmd_status.specs.Inputs.{AreLinkFiles, IsLinkFault}, cmd_check.specs.{JudgedAreas.judged_net, declared.supposing.Judged.TheVariants.Ended}};
 ghost use Rattle.cmd_check.specs.Supposing.{AreJudgedTags, IsJudged, IsJudgingFault, IsKnownFault, IsKnownJudged, IsLeftShown, IsNetShown, IsPromisedSupposing, SupposingAnswers, ended_as};
+ghost use Rattle.cmd_suppose.specs.{Leaving.{is_judged, texts_left}, Listings.IsListing};
 
 use crate::area_tags::area_tags;
 use crate::checking::Besides;

@@ -1,14 +1,10 @@
 -- The status of a fault is never 0.
-use Rattle.std.proofs.Common.{◌≡◌, arith}
+use Rattle.{std.proofs.Common.{◌≡◌, arith}, base_file.specs.declared.fault.BaseFault.BaseFault, echo_nodelist.specs.declared.fault.NodeFault.NodeFault}
 use Rattle.cmd_status.specs.Status.{base_status, link_status, node_status, packet_status, post_status, scan_status, status_of, text_status}
-use Rattle.cmd_status.specs.declared.{status.Status.TheVariants.Good, fault.Fault.Fault}
-use Rattle.cmd_status.specs.declared.fault.Fault.TheVariants as fault
-use Rattle.echo_links.specs.declared.fault.LinkFault.{LinkFault}
-use Rattle.base_file.specs.declared.fault.BaseFault.{BaseFault}
-use Rattle.echo_nodelist.specs.declared.fault.NodeFault.{NodeFault}
-use Rattle.echo_packet.specs.declared.fault.PacketFault.{PacketFault}
-use Rattle.model_steps.specs.declared.fault.{PostFault.PostFault, ScanFault.ScanFault}
+use Rattle.{cmd_status.specs.declared.{status.Status.TheVariants.Good, fault.Fault.Fault}, echo_links.specs.declared.fault.LinkFault.LinkFault}
+use Rattle.{echo_packet.specs.declared.fault.PacketFault.PacketFault, model_steps.specs.declared.fault.{PostFault.PostFault, ScanFault.ScanFault}}
 use Rattle.echo_text.specs.declared.fault.TextFault.{TextFault}
+use Rattle.cmd_status.specs.declared.fault.Fault.TheVariants as fault
 
 of_packet : (f : PacketFault) → packet_status f ≡ Good → ⊥
 of_packet h1 is = grind arith

@@ -1,8 +1,6 @@
 -- A second has one stamp.
-use Rattle.std.proofs.Common.{◌≡◌, ℕ, ◌/◌, ◌%◌, ◌∙◌, sym, subst, arith, pos}
-use Rattle.model_steps.specs.declared.stamp.Stamp.{Stamp}
+use Rattle.{std.proofs.Common.{◌≡◌, ℕ, ◌/◌, ◌%◌, ◌∙◌, sym, subst, arith, pos}, model_steps.specs.declared.stamp.Stamp.Stamp, cmd_input.specs.Moment.IsMomentAt}
 use Rattle.jiff_core.{specs.{declared.civil.date.Date.Date, Calendar.IsEpochDay, Date.epoch_day}, proofs.DateLemmas.{epoch_day_injective, epoch_day_range}}
-use Rattle.cmd_input.specs.Moment.{IsMomentAt}
 
 abbrev pub date_of : (seconds : ℕ) (s : Stamp) → IsMomentAt seconds s → Date
 date_of seconds s at = record {

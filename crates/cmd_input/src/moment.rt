@@ -1,7 +1,6 @@
-ghost use Rattle.std.specs.Prelude.{◌≡◌, ℕ, Some, IfSome, MatchOption, pos};
-ghost use Rattle.jiff_core.specs.{Calendar.IsEpochDay, Date.epoch_day};
-ghost use Rattle.model_steps.specs.declared.stamp.Stamp as model;
+ghost use Rattle.{std.specs.Prelude.{◌≡◌, ℕ, Some, IfSome, MatchOption, pos}, jiff_core.specs.{Calendar.IsEpochDay, Date.epoch_day}};
 ghost use Rattle.cmd_input.specs.Moment.{IsMomentAt, IsShownAt};
+ghost use Rattle.model_steps.specs.declared.stamp.Stamp as model;
 
 use jiff_core::civil::Date;
 use model_steps::Stamp;

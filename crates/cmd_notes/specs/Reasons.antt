@@ -1,20 +1,17 @@
 -- The notes that say in words why a command stopped, or which files it made.
-use Rattle.std.specs.Prelude.{ℕ, List, ◌++◌, codes, decimal}
-use Rattle.echo_addr.specs.Address.{address_text}
-use Rattle.echo_charset.specs.Words.{printed_word}
-use Rattle.echo_links.specs.declared.fault.LinkFault.{LinkFault}
+use Rattle.{std.specs.Prelude.{ℕ, List, ◌++◌, codes, decimal}, echo_addr.specs.Address.address_text, echo_charset.specs.Words.printed_word}
+use Rattle.{echo_links.specs.declared.fault.LinkFault.LinkFault, echo_packet.specs.declared.fault.{Field.Field, PacketFault.PacketFault}}
+use Rattle.cmd_notes.specs.declared.reasons.{FaultyPacket.FaultyPacket, LongField.LongField, Misdelivered.Misdelivered, PacketPlace.PacketPlace}
+use Rattle.cmd_notes.specs.declared.reasons.{PathState.PathState, Reason.Reason, State.State, WordForm.WordForm, WrongLine.WrongLine, WrongWord.WrongWord}
+use Rattle.{cmd_notes.specs.declared.reasons.{Cost.Cost, NotSeen.NotSeen}, cmd_show.specs.LinksShown.fault_number}
 use Rattle.echo_links.specs.declared.fault.LinkFault.TheVariants as fault
-use Rattle.echo_packet.specs.declared.fault.{Field.Field, PacketFault.PacketFault}
 use Rattle.echo_packet.specs.declared.fault.Field.TheVariants as field
 use Rattle.echo_packet.specs.declared.fault.PacketFault.TheVariants as packet
-use Rattle.cmd_notes.specs.declared.reasons.{FaultyPacket.FaultyPacket, LongField.LongField, Misdelivered.Misdelivered, PacketPlace.PacketPlace, PathState.PathState, Reason.Reason, State.State}
-use Rattle.cmd_notes.specs.declared.reasons.{WordForm.WordForm, WrongLine.WrongLine, WrongWord.WrongWord, Cost.Cost, NotSeen.NotSeen}
 use Rattle.cmd_notes.specs.declared.reasons.Cost.TheVariants as cost
 use Rattle.cmd_notes.specs.declared.reasons.NotSeen.TheVariants as unseen
 use Rattle.cmd_notes.specs.declared.reasons.Reason.TheVariants as reason
 use Rattle.cmd_notes.specs.declared.reasons.State.TheVariants as state
 use Rattle.cmd_notes.specs.declared.reasons.WordForm.TheVariants as form
-use Rattle.cmd_show.specs.LinksShown.{fault_number}
 
 abbrev pub complaint : LinkFault → List ℕ
 complaint (fault.UnknownWord number) = codes "unknown word"

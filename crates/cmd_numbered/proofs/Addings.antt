@@ -1,12 +1,9 @@
 -- Messages added to a JAM base, and why they were not.
 use Rattle.std.proofs.Common.{◌≡◌, ◌≤◌, ◌+◌, ◌-◌, ◌∙◌, ℕ, zero, suc, nat_lt, Bool, true, false, List, [], ◌++◌, length, Option, Some, None, OnErr, Result, Ok, Err, refl, sym, ap, subst, arith, add-one, append_assoc, suc-add, zero-add}
-use Rattle.std.{proofs.lemmas.List.append-nil, specs.{Prelude.{if◌then◌else◌, slice_get}, Io.KnownBytes.Appends}}
-use Rattle.echo_filed.specs.Filed.{Filed}
-use Rattle.echo_jam.specs.Fields.{body_of}
-use Rattle.base_file.specs.Base.{Base}
-use Rattle.cmd_status.{specs.Lines.WritesFront, proofs.Lines.begun_after}
-use Rattle.cmd_numbered.specs.JamAdded.{Added, IsUnadded, IsUnsent, added_at, added_of, is_added, with_message}
-use Rattle.cmd_numbered.specs.declared.{adding.JamEnd.JamEnd, jam_export_error.JamExportError.JamExportError}
+use Rattle.{std.{proofs.lemmas.List.append-nil, specs.{Prelude.{if◌then◌else◌, slice_get}, Io.KnownBytes.Appends}}, echo_filed.specs.Filed.Filed}
+use Rattle.{echo_jam.specs.Fields.body_of, base_file.specs.Base.Base, cmd_status.{specs.Lines.WritesFront, proofs.Lines.begun_after}}
+use Rattle.cmd_numbered.specs.{JamAdded.{Added, IsUnadded, IsUnsent, added_at, added_of, is_added, with_message}, declared.adding.JamEnd.JamEnd}
+use Rattle.cmd_numbered.specs.declared.jam_export_error.JamExportError.{JamExportError}
 
 pub unadded_here : (path : List ℕ) (first now old before after : ℕ) (why : JamExportError) → before ≡ old → IsUnadded before after why → IsUnsent path first now old after why
 unadded_here path first now old before after h7 same is = grind arith

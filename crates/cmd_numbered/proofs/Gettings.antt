@@ -1,11 +1,8 @@
 -- The files of messages, and why they were not made.
 use Rattle.std.{proofs.Common.{◌≡◌, ◌≤◌, ℕ, Bool, true, List, [], ◌∷◌, ◌∙◌, ap, sym, Option, Some, Result, arith}, specs.{Prelude.if◌then◌else◌, Result.IfErr}}
-use Rattle.echo_filed.specs.Filed.{Filed}
-use Rattle.base_file.specs.Base.{Base}
-use Rattle.base_folder.proofs.Fetchings.{unread_since}
-use Rattle.cmd_status.specs.declared.status.Status.{Status}
-use Rattle.cmd_numbered.specs.Numbered.{EndsAt, IsMadeFrom, IsUnexported, IsUnmade, file_at, file_of, is_exported}
-use Rattle.cmd_numbered.specs.declared.{folder.MessageFile.MessageFile, numbering.Exported.Exported, numbering.ExportError.ExportError}
+use Rattle.{echo_filed.specs.Filed.Filed, base_file.specs.Base.Base, base_folder.proofs.Fetchings.unread_since, cmd_status.specs.declared.status.Status.Status}
+use Rattle.cmd_numbered.specs.{Numbered.{EndsAt, IsMadeFrom, IsUnexported, IsUnmade, file_at, file_of, is_exported}, declared.folder.MessageFile.MessageFile}
+use Rattle.cmd_numbered.specs.declared.numbering.{Exported.Exported, ExportError.ExportError}
 
 pub one_file : (area : List ℕ) (first cursor number i : ℕ) (m : Filed) (found : Option Filed) (is : Bool) → Some m ≡ found → is ≡ is_exported area first cursor i m → is ≡ true
     → file_at area first cursor number i found ≡ file_of cursor number i m ∷ []

@@ -1,16 +1,10 @@
 -- Messages of a base that are added to a JAM base: their choice, their numbers, and their bytes in its files.
 use Rattle.std.specs.Prelude.{◌≡◌, ℕ, zero, suc, ◌+◌, ◌&&◌, not, nat_lt, max, Bool, false, is_some, List, [], ◌∷◌, ◌++◌, length, if◌then◌else◌, slice_get, Option, Some, None}
-use Rattle.std.specs.Io.KnownBytes.{Appends}
-use Rattle.echo_filed.specs.Filed.{Filed}
-use Rattle.echo_links.specs.Links.{upper}
-use Rattle.echo_jam.specs.{Fields.body_of, Fields.cuts_of, JamMessage.entry_of, JamMessage.header_of, Same.is_same, Unsent.has_id}
-use Rattle.echo_text.specs.Echo.{msgid_of}
-use Rattle.cmd_status.specs.Ended.{IsOutOfMemory}
-use Rattle.disk_io.specs.Device.{Failed}
-use Rattle.base_file.specs.Base.{Base}
-use Rattle.base_folder.specs.{Fetching.IsUnread, Source.SourceState}
-use Rattle.cmd_numbered.specs.declared.{adding.Adding.Adding, adding.JamEnd.JamEnd, adding.JamExport.JamExport, jam_export_error.JamExportError.JamExportError}
-use Rattle.cmd_numbered.specs.{declared.jam_export_error.JamExportError.TheVariants.Messages, declared.jam_export_error.JamExportError.TheVariants.Device, Numbered.is_exported}
+use Rattle.{std.specs.Io.KnownBytes.Appends, echo_filed.specs.Filed.Filed, echo_links.specs.Links.upper, echo_jam.specs.Fields.{body_of, cuts_of}}
+use Rattle.{echo_jam.specs.{JamMessage.{entry_of, header_of}, Same.is_same, Unsent.has_id}, echo_text.specs.Echo.msgid_of, cmd_status.specs.Ended.IsOutOfMemory}
+use Rattle.{disk_io.specs.Device.Failed, base_file.specs.Base.Base, base_folder.specs.{Fetching.IsUnread, Source.SourceState}}
+use Rattle.cmd_numbered.specs.declared.{adding.{Adding.Adding, JamEnd.JamEnd, JamExport.JamExport}, jam_export_error.JamExportError.JamExportError}
+use Rattle.cmd_numbered.specs.{declared.jam_export_error.JamExportError.TheVariants.{Messages, Device}, Numbered.is_exported}
 
 -- The bytes added to headers, texts and index; the numbers of the messages in their base; the number of cut subfields.
 pub record Added : Type 0 where

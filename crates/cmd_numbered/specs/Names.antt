@@ -1,7 +1,6 @@
 -- The names of stored messages in a folder: a number, and `.msg` in letters of either case.
 use Rattle.std.specs.Prelude.{ℕ, ◌-◌, ◌&&◌, List, ◌++◌, length, take, drop, codes, decimal, if◌then◌else◌, bytes_eq, Bool, Option, None, is_some}
-use Rattle.echo_addr.specs.Digits.{number_within}
-use Rattle.echo_links.specs.Links.{upper}
+use Rattle.{echo_addr.specs.Digits.number_within, echo_links.specs.Links.upper}
 
 abbrev pub front_of_name : List ℕ → List ℕ
 front_of_name name = take (length name - 4) name

@@ -1,14 +1,9 @@
 -- Messages of a base as numbered files of a folder: their choice, their bytes and their numbers.
 use Rattle.std.specs.Prelude.{◌≡◌, ◌<◌, ℕ, zero, suc, ◌+◌, ◌&&◌, ◌||◌, not, nat_le, nat_lt, max, Bool, false, List, [], ◌∷◌, ◌++◌, length, take, drop, if◌then◌else◌, slice_get, bytes_eq, Option, Some, None, is_some}
-use Rattle.echo_filed.specs.{Filed.Filed, Stubs.is_stub}
-use Rattle.echo_links.specs.Links.{upper}
-use Rattle.echo_text.specs.Echo.{msgid_of}
-use Rattle.cmd_status.specs.{declared.fault.Fault.Fault, declared.status.Status.Status, Ended.IsOutOfMemory}
-use Rattle.base_file.specs.Base.{Base}
-use Rattle.base_folder.specs.Fetching.{IsUnread}
-use Rattle.echo_stored.specs.StoredMessage.{stored_bytes}
-use Rattle.cmd_numbered.specs.declared.numbering.{Exported.Exported, ExportError.ExportError, ExportError.TheVariants.File, ExportError.TheVariants.Message}
-use Rattle.cmd_numbered.specs.{declared.folder.MessageFile.MessageFile, Folders.Gets, Names.name_of}
+use Rattle.{echo_filed.specs.{Filed.Filed, Stubs.is_stub}, echo_links.specs.Links.upper, echo_text.specs.Echo.msgid_of}
+use Rattle.{cmd_status.specs.{declared.status.Status.Status, Ended.IsOutOfMemory}, base_file.specs.Base.Base, base_folder.specs.Fetching.IsUnread}
+use Rattle.{echo_stored.specs.StoredMessage.stored_bytes, cmd_numbered.specs.declared.numbering.{Exported.Exported, ExportError.ExportError}}
+use Rattle.cmd_numbered.specs.{declared.{numbering.ExportError.TheVariants.{File, Message}, folder.MessageFile.MessageFile}, Folders.Gets, Names.name_of}
 
 -- Whether only the id of a message's text is left.
 abbrev pub is_purged : Filed → Bool

@@ -1,14 +1,9 @@
 -- A packet that is made again of a base file.
 use Rattle.std.specs.Prelude.{◌≡◌, ◌≤◌, ◌<◌, ℕ, ◌⊎◌, true, false, List, [], ◌∷◌, length, map, min, filter, Option, Some, None, Result, Ok, Err}
-use Rattle.base_file.specs.Base.{Base}
-use Rattle.base_folder.specs.{Fetching.IsUnread, Source.SourceState}
-use Rattle.echo_addr.specs.declared.address.Address.{Address}
-use Rattle.echo_filed.specs.Filed.{Filed}
-use Rattle.echo_packet.specs.Message.{Message}
-use Rattle.echo_links.specs.Links.{LinkFile, upper}
-use Rattle.model_steps.specs.{declared.fault.ScanFault.TheVariants.BadStamp, declared.packet.Packet.Packet, declared.stamp.Stamp.Stamp, Resending.is_resent, Resending.resent_packet, Scanning.copy_to}
-use Rattle.model_steps.specs.Stamps.{is_stamp}
-use Rattle.cmd_status.specs.{declared.fault.Fault.Fault, declared.fault.Fault.TheVariants.Scan}
+use Rattle.{base_file.specs.Base.Base, base_folder.specs.{Fetching.IsUnread, Source.SourceState}, echo_addr.specs.declared.address.Address.Address}
+use Rattle.{echo_filed.specs.Filed.Filed, echo_packet.specs.Message.Message, echo_links.specs.Links.{LinkFile, upper}}
+use Rattle.model_steps.specs.{declared.{fault.ScanFault.TheVariants.BadStamp, packet.Packet.Packet, stamp.Stamp.Stamp}, Resending.{is_resent, resent_packet}}
+use Rattle.{model_steps.specs.{Scanning.copy_to, Stamps.is_stamp}, cmd_status.specs.declared.fault.Fault.{Fault, TheVariants.Scan}}
 
 -- The packet made again from the messages of a base.
 pub record IsMadeOf (file : LinkFile) (stamp : Stamp) (area : List ℕ) (to : Address) (first : ℕ) (base : Base) (packet : Packet) : Type 0 where

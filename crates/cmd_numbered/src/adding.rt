@@ -1,10 +1,7 @@
 //! Which messages are added to a JAM base, and what that adds.
-ghost use Rattle.std.specs.Prelude.{◌≡◌, ◌≤◌, ◌+◌, ◌++◌, ◌&&◌, ℕ, List, Option, [], IfErr, IfOk, OnErr, OnOk, length, option_copied};
-ghost use Rattle.base_file.specs.Base.{Base};
-ghost use Rattle.base_folder.specs.{Fetching.IsUnread, Source.AreLegible, Source.LooksAt};
-ghost use Rattle.cmd_status.specs.Lines.{WritesFront};
+ghost use Rattle.{std.specs.Prelude.{◌≡◌, ◌≤◌, ◌+◌, ◌++◌, ◌&&◌, ℕ, List, Option, [], IfErr, IfOk, OnErr, OnOk, length, option_copied}, base_file.specs.Base.Base};
+ghost use Rattle.{base_folder.specs.{Fetching.IsUnread, Source.{AreLegible, LooksAt}}, cmd_status.specs.Lines.WritesFront, echo_jam.specs.Fields.body_of};
 ghost use Rattle.cmd_numbered.specs.JamAdded.{Added, HasAdded, HasBegun, IsJamExport, IsUnadded, IsUnsent, added_at, added_in, added_of, is_added, is_last_jam, is_written_there, jam_texts, nothing_added, resumed_jam, with_message};
-ghost use Rattle.echo_jam.specs.Fields.{body_of};
 
 use crate::jam_export_error::JamExportError;
 use crate::numbering::is_exported;

@@ -1,12 +1,8 @@
 //! The message of a base that has an id.
 ghost use Rattle.std.specs.{Prelude.{ℕ, Option, ◌≡◌, ◌≢◌, ◌≤◌, ◌<◌, ◌^◌, not, IfOk, MatchOption, OnOk, length, option_copied, take_while}, Option.option_map};
-ghost use Rattle.base_file.specs.Base.{Base};
-ghost use Rattle.base_folder.specs.Source.{AreLegible};
-ghost use Rattle.echo_addr.specs.Entries.{is_blank};
-ghost use Rattle.echo_filed.specs.Filed.{Filed};
-ghost use Rattle.echo_text.specs.Ids.{id_of};
+ghost use Rattle.{base_file.specs.Base.Base, base_folder.specs.Source.AreLegible, echo_addr.specs.Entries.is_blank, echo_filed.specs.Filed.Filed};
+ghost use Rattle.{echo_text.specs.Ids.id_of, cmd_numbered.specs.Reading.AnswersReading};
 ghost use Rattle.cmd_numbered.specs.Finding.{IsAnswered, IsPostedAs, answered_as, charset_of, has_id, has_words, is_found_as, label_name, last_at};
-ghost use Rattle.cmd_numbered.specs.Reading.{AnswersReading};
 
 use base_folder::{MessageSource, fetch_message};
 use cmd_status::Fault;

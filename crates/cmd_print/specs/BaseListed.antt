@@ -1,12 +1,8 @@
 -- The lines of `list` for the messages of a base.
 use Rattle.std.specs.Prelude.{ℕ, ◌-◌, ◌&&◌, nat_le, Bool, true, false, List, [], ◌++◌, length, codes, decimal, if◌then◌else◌, slice_get, bytes_eq, Option, Some, None, is_some}
-use Rattle.std.specs.List.{flat_map, range_with_len}
-use Rattle.echo_addr.specs.{declared.address.Address.Address, Address.address_text}
-use Rattle.echo_filed.specs.{Filed.Filed, Stubs.is_stub}
-use Rattle.echo_text.specs.Echo.{EchoText, msgid_of}
-use Rattle.echo_charset.specs.Escaped.{escaped_line}
-use Rattle.echo_export.specs.Label.{without_zeros}
-use Rattle.cmd_print.specs.declared.list_form.ListForm.{ListForm, TheVariants.Short, TheVariants.Whole}
+use Rattle.{std.specs.List.{flat_map, range_with_len}, echo_addr.specs.{declared.address.Address.Address, Address.address_text}, echo_filed.specs.Filed.Filed}
+use Rattle.{echo_filed.specs.Stubs.is_stub, echo_text.specs.Echo.{EchoText, msgid_of}, echo_charset.specs.Escaped.escaped_line}
+use Rattle.{echo_export.specs.Label.without_zeros, cmd_print.specs.declared.list_form.ListForm.{ListForm, TheVariants.{Short, Whole}}}
 
 -- The origin of a message: it was posted here, or this system sent it.
 abbrev pub origin_text : Option Address → List ℕ

@@ -1,10 +1,9 @@
 -- The lines of `nodelist`.
 use Rattle.std.specs.Prelude.{◌≡◌, ℕ, ◌+◌, Bool, true, false, List, [], ◌∷◌, ◌++◌, length, codes, decimal, slice_index_or, Option, Some, None}
-use Rattle.std.specs.List.{count_by, flat_map, range_with_len}
-use Rattle.echo_addr.specs.{declared.address.Address.Address, Address.address_text}
-use Rattle.echo_nodelist.specs.{declared.stated.CrcLine.CrcLine, declared.stated.CrcLine.TheVariants.Absent, declared.stated.CrcLine.TheVariants.Match, declared.stated.CrcLine.TheVariants.Mismatch, declared.keyword.Keyword.Keyword, declared.keyword.Keyword.TheVariants.Node, declared.line.Line.Line, declared.line.Line.TheVariants.Note, declared.line.Line.TheVariants.Entry, Back.Finds, Back.address_at, Line.keyword_text}
-use Rattle.echo_charset.specs.Escaped.{escaped_line}
-use Rattle.cmd_print.specs.Shown.{zero_padded}
+use Rattle.{std.specs.List.{count_by, flat_map, range_with_len}, echo_addr.specs.{declared.address.Address.Address, Address.address_text}}
+use Rattle.echo_nodelist.specs.declared.{stated.CrcLine.{CrcLine, TheVariants.{Absent, Match, Mismatch}}, keyword.Keyword.{Keyword, TheVariants.Node}}
+use Rattle.echo_nodelist.specs.{declared.line.Line.{Line, TheVariants.{Note, Entry}}, Back.{Finds, address_at}, Line.keyword_text}
+use Rattle.{echo_charset.specs.Escaped.escaped_line, cmd_print.specs.Shown.zero_padded}
 
 abbrev pub mismatch_line : ℕ → ℕ → List ℕ
 mismatch_line stated computed = codes "crc mismatch stated " ++ (zero_padded 5 stated ++ (codes " computed " ++ (zero_padded 5 computed ++ codes "\n")))

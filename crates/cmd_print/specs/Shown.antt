@@ -1,11 +1,8 @@
 -- The lines of `show` for a packet.
 use Rattle.std.specs.{Prelude.{◌≡◌, ℕ, ◌+◌, ◌-◌, Bool, List, [], ◌∷◌, ◌++◌, length, replicate, codes, decimal, if◌then◌else◌}, List.flat_map}
-use Rattle.echo_addr.specs.{declared.address.Address.Address, Address.address_text}
-use Rattle.hex.specs.Hex.{encode_lower}
-use Rattle.echo_packet.specs.{declared.header.Header.Header, Message.Message, Message.message_bytes}
-use Rattle.echo_charset.specs.Escaped.{escaped_line}
+use Rattle.{echo_addr.specs.{declared.address.Address.Address, Address.address_text}, hex.specs.Hex.encode_lower, cmd_print.specs.Said.TextShown}
+use Rattle.{echo_packet.specs.{declared.header.Header.Header, Message.{Message, message_bytes}}, echo_charset.specs.Escaped.escaped_line}
 use Rattle.echo_text.specs.Lines as text_lines
-use Rattle.cmd_print.specs.Said.{TextShown}
 
 -- A number in decimal, with leading zeros up to the requested number of digits.
 unfoldable pub zero_padded : ℕ → ℕ → List ℕ

@@ -1,6 +1,5 @@
-ghost use Rattle.std.specs.{Prelude.◌≡◌, Prelude.◌++◌, Prelude.◌<◌, Prelude.codes, Prelude.length, Prelude.OnOk, Prelude.Some, List.count_by};
-ghost use Rattle.echo_addr.specs.Address.{address_text};
-ghost use Rattle.cmd_print.specs.{Listed.RestListed, Listed.crc_text, Listed.listed_entry, Listed.found_text, Listed.is_entry, Listed.keyword_word, Listed.line_number, Listed.mismatch_line, Listed.first_field, Listed.total_line, Pushed.Pushes};
+ghost use Rattle.{std.specs.{Prelude.{◌≡◌, ◌++◌, ◌<◌, codes, length, OnOk, Some}, List.count_by}, echo_addr.specs.Address.address_text, cmd_print.specs.Pushed.Pushes};
+ghost use Rattle.cmd_print.specs.Listed.{RestListed, crc_text, listed_entry, found_text, is_entry, keyword_word, line_number, mismatch_line, first_field, total_line};
 
 use echo_addr::{Address, Items};
 use echo_charset::{push_escaped, written};

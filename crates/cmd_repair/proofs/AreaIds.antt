@@ -1,17 +1,16 @@
 -- The ids of a base's messages are ids. What is printed of them is a list of just these.
 use Rattle.std.proofs.Common.{◌≡◌, ℕ, suc, ◌+◌, ◌-◌, ◌<◌, ◌≤◌, Bool, true, false, List, [], ◌∷◌, length, drop, get_or, take, Option, Some, None, refl, sym, ap, subst, ◌∙◌, inl, inr, arith, length-drop, reverse}
-use Rattle.std.proofs.lemmas.{Bool.{cases_Bool, ltb-true, ne_eqb, or_from, or_parts}, List.{Elements.{All-filter, All-from_recursion, recursion_from_All}, Edits.length-swap, Sorted.list_any-IsPermutation, get_or-drop, get_or-reverse, get_or-take, length-reverse, length-take-le, Sums.prefix_len_stops}}
-use Rattle.std.specs.{Cmp.Lexicographic.bytes_decides, Prelude.{◌&&◌, ◌||◌, bytes_eq, filter, filter_map, map, nat_lt, not, slice_index}, List.{AllByRecursion, Sorted.apply_swaps, cons_option, list_all, list_any, prefix_len, suffix_len}}
-use Rattle.base_file.specs.Base.{Base, IsBase, is_known}
-use Rattle.cmd_status.specs.declared.status.Status.{Status}
-use Rattle.echo_addr.specs.Entries.{is_blank}
+use Rattle.std.proofs.lemmas.{Bool.{cases_Bool, ltb-true, ne_eqb, or_from, or_parts}, List.Elements.{All-filter, All-from_recursion, recursion_from_All}}
+use Rattle.std.proofs.lemmas.List.{Edits.length-swap, Sorted.list_any-IsPermutation, get_or-drop, get_or-reverse, get_or-take, length-reverse, length-take-le}
+use Rattle.{std.{proofs.lemmas.List.Sums.prefix_len_stops, specs.Cmp.Lexicographic.bytes_decides}, cmd_repair.proofs.Unescaped.{both, passes}}
+use Rattle.std.specs.Prelude.{◌&&◌, ◌||◌, bytes_eq, filter, filter_map, map, nat_lt, not, slice_index}
+use Rattle.std.specs.List.{AllByRecursion, cons_option, list_all, list_any, prefix_len, suffix_len, Sorted.apply_swaps}
+use Rattle.{base_file.specs.Base.{Base, IsBase, is_known}, cmd_status.specs.declared.status.Status.Status, echo_addr.specs.Entries.is_blank}
 use Rattle.echo_filed.specs.{declared.key.Key.TheVariants.ById, Filed.{Filed, IsFiled, key_of, key_with, same_key}}
-use Rattle.echo_filed.proofs.{Choices.{all_map, all_weaker, found_is}, Plain.{IsLineByte, Plain, plain_drop, plain_take}}
-use Rattle.echo_packet.specs.Header.{AreBytes}
+use Rattle.{echo_filed.proofs.{Choices.{all_map, all_weaker, found_is}, Plain.{IsLineByte, Plain, plain_drop, plain_take}}, echo_packet.specs.Header.AreBytes}
 use Rattle.echo_text.specs.{Echo.{IsLine, msgid_of}, Lines.{after_word, begins, is_tag, is_tag_byte, msgid_word, trimmed}}
-use Rattle.model_run.{proofs.Lists.{filter-no, filter-yes}, specs.Repair.is_named}
-use Rattle.cmd_repair.specs.{IdList.ListsIds, Ids.{IsId, is_id, is_text_byte}, IdsListed.{AreIdsListed, area_ids, area_messages, is_in}, Rest.HaveByteIds, Words.most_messages}
-use Rattle.cmd_repair.proofs.{Printed.printed-list, Unescaped.{both, passes}}
+use Rattle.{model_run.{proofs.Lists.{filter-no, filter-yes}, specs.Repair.is_named}, cmd_repair.specs.{IdList.ListsIds, Ids.{IsId, is_id, is_text_byte}}}
+use Rattle.cmd_repair.{specs.{IdsListed.{AreIdsListed, area_ids, area_messages, is_in}, Rest.HaveByteIds, Words.most_messages}, proofs.Printed.printed-list}
 
 -- ---- the id of a message
 

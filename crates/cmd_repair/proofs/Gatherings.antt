@@ -1,7 +1,6 @@
 use Rattle.std.proofs.Common.{◌≡◌, ℕ, ◌+◌, ◌<◌, List, [], ◌∷◌, ◌++◌, length, take, Option, Some, inl, inr, sym, ap, subst, ◌∙◌, arith, length-append}
 use Rattle.std.{proofs.lemmas.{List.{Elements.{filter-append, filter_map-append}, take_more}, Option.slice_get_cases}, specs.Prelude.{filter_map, slice_get}}
-use Rattle.echo_filed.specs.Filed.{Filed}
-use Rattle.echo_text.specs.Echo.{msgid_of}
+use Rattle.{echo_filed.specs.Filed.Filed, echo_text.specs.Echo.msgid_of}
 use Rattle.cmd_repair.specs.IdsListed.{Gathers, area_ids, area_messages, ids_at, is_in, messages_at}
 
 pub one_next : (base : List Filed) (i : ℕ) (m : Option Filed) → m ≡ slice_get base i → i < length base → (x : Filed) × (m ≡ Some x) × (take (i + 1) base ≡ take i base ++ x ∷ [])

@@ -1,11 +1,9 @@
 use Rattle.std.proofs.Common.{◌≡◌, ℕ, ◌-◌, List, [], ◌++◌, Bor, Err, inl, inr, length, map, refl, sym, ap, subst, ◌∙◌, append_assoc}
-use Rattle.std.proofs.lemmas.{List.Folds.flat_map-map, List.Sorted.IsPermutation-map, List.length-map}
-use Rattle.std.specs.{Cmp.Lexicographic.slice_cmp, Io.KnownBytes.Appends, List.Sorted.IsPermutation, List.Sorted.IsSortedBy, List.flat_map, Ordering.is_lt, Ordering.nat_cmp, Prelude.codes}
-use Rattle.base_file.specs.Base.{Base}
-use Rattle.echo_charset.specs.Escaped.{escaped_line}
-use Rattle.echo_links.specs.Links.{upper}
-use Rattle.cmd_status.specs.{Devices.Output, Ended.AnswersInPieces, Ended.IsBegun, Ended.IsDone, Ended.IsOutOfMemory, Ended.PassesAll, Lines.PassesOn, Lines.WritesFront, declared.fault.Fault.Fault, declared.status.Status.TheVariants.Good}
-use Rattle.cmd_status.proofs.Lines.{alone, begun_after, front_more, none_passed, passed_more, sent_after}
+use Rattle.std.{proofs.lemmas.List.{Folds.flat_map-map, Sorted.IsPermutation-map, length-map}, specs.{Cmp.Lexicographic.slice_cmp, Io.KnownBytes.Appends}}
+use Rattle.{std.specs.{List.{Sorted.{IsPermutation, IsSortedBy}, flat_map}, Ordering.{is_lt, nat_cmp}, Prelude.codes}, base_file.specs.Base.Base}
+use Rattle.{echo_charset.specs.Escaped.escaped_line, echo_links.specs.Links.upper, cmd_status.specs.Devices.Output}
+use Rattle.cmd_status.specs.{Ended.{AnswersInPieces, IsBegun, IsDone, IsOutOfMemory, PassesAll}, Lines.{PassesOn, WritesFront}, declared.fault.Fault.Fault}
+use Rattle.cmd_status.{specs.declared.status.Status.TheVariants.Good, proofs.Lines.{alone, begun_after, front_more, none_passed, passed_more, sent_after}}
 use Rattle.cmd_repair.{proofs.Searching.sorted_bytes, specs.IdsListed.{AreIdsListed, Gathers, area_ids, area_messages}}
 use Rattle.cmd_repair.specs.Words.{area_words, end_words, ids_text}
 

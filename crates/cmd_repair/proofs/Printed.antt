@@ -1,16 +1,13 @@
 -- What `list_ids` prints is a list that is taken.
 use Rattle.std.proofs.Common.{◌≡◌, ℕ, zero, suc, ◌+◌, ◌-◌, ◌<◌, ◌≤◌, Bool, true, false, List, [], ◌∷◌, ◌++◌, length, map, take, drop, refl, sym, ap, ◌∙◌, arith, append_assoc}
-use Rattle.std.proofs.lemmas.Bool.{cond-false, cond-true, or_left}
-use Rattle.std.proofs.lemmas.List.{Elements.All-from_recursion, Folds.list_all-append, Splits.slice_split_at, Sums.AllPass-from_list_all}
-use Rattle.std.specs.Prelude.{◌==◌, ◌&&◌, ◌^◌, not, nat_eq, nat_le, nat_lt, codes, decimal, slice_index}
-use Rattle.std.specs.{Cmp.Lexicographic.pointwise, List.{AllByRecursion, AllPass, Sorted.IsPermutation, ends_with, flat_map, list_all, slice_split}}
-use Rattle.echo_addr.proofs.{Decimals.{IsDigit, digits_of_decimal}, Pieces.first_of_split}
-use Rattle.echo_charset.specs.Escaped.{escaped, escaped_byte, escaped_line}
+use Rattle.std.proofs.lemmas.{Bool.{cond-false, cond-true, or_left}, List.{Elements.All-from_recursion, Folds.list_all-append, Splits.slice_split_at}}
+use Rattle.std.{proofs.lemmas.List.Sums.AllPass-from_list_all, specs.Prelude.{◌==◌, ◌&&◌, ◌^◌, not, nat_eq, nat_le, nat_lt, codes, decimal, slice_index}}
+use Rattle.std.specs.{Cmp.Lexicographic.pointwise, List.{AllByRecursion, AllPass, ends_with, flat_map, list_all, slice_split, Sorted.IsPermutation}}
+use Rattle.{echo_addr.proofs.{Decimals.{IsDigit, digits_of_decimal}, Pieces.first_of_split}, echo_charset.specs.Escaped.{escaped, escaped_byte, escaped_line}}
 use Rattle.echo_charset.specs.Words.{are_shown, is_covered, is_one, is_shown, printed_word, spelled, visible_at}
 use Rattle.echo_links.{specs.LinkLines.{ended_pieces, file_lines, without_return}, proofs.LinkBytes.no_lines_left}
-use Rattle.echo_text.specs.Lines.{is_feed, is_tag_byte}
-use Rattle.cmd_repair.specs.{IdList.{ListsIds, id_line}, Ids.IsId, Words.{area_words, end_words, ids_text, most_messages}}
-use Rattle.cmd_repair.proofs.Unescaped.{AreSmall, both, every, every-each, id-small, passes}
+use Rattle.{echo_text.specs.Lines.{is_feed, is_tag_byte}, cmd_repair.specs.{IdList.{ListsIds, id_line}, Ids.IsId}}
+use Rattle.cmd_repair.{specs.Words.{area_words, end_words, ids_text, most_messages}, proofs.Unescaped.{AreSmall, both, every, every-each, id-small, passes}}
 
 -- ---- bytes inside a line
 

@@ -1,9 +1,8 @@
 -- A list is read line by line.
 use Rattle.std.proofs.Common.{◌≡◌, ℕ, ◌+◌, ◌-◌, Bool, true, false, List, [], ◌∷◌, ◌++◌, length, map, Option, Some, inl, inr, refl, sym, ap, ◌∙◌, append_assoc, append-nil, arith}
-use Rattle.std.{proofs.lemmas.Bool.{cases_Bool, cond-true, cond-false}, specs.Prelude.{filter, if◌then◌else◌}}
-use Rattle.echo_links.specs.LinkLines.{file_lines}
-use Rattle.cmd_repair.specs.{declared.reading.Stage.Stage, declared.reading.Stage.TheVariants.Ended, declared.reading.Stage.TheVariants.Ids, declared.reading.Stage.TheVariants.Start, declared.reading.Stage.TheVariants.Wrong, IdList.id_words, IdList.is_wrong, IdList.missing_line, IdList.stage_after, IdList.wrong_line}
-use Rattle.cmd_repair.specs.Words.{id_word, is_id_line}
+use Rattle.{std.{proofs.lemmas.Bool.{cases_Bool, cond-true, cond-false}, specs.Prelude.{filter, if◌then◌else◌}}, echo_links.specs.LinkLines.file_lines}
+use Rattle.cmd_repair.specs.declared.reading.Stage.{Stage, TheVariants.{Ended, Ids, Start, Wrong}}
+use Rattle.cmd_repair.specs.{IdList.{id_words, is_wrong, missing_line, stage_after, wrong_line}, Words.{id_word, is_id_line}}
 
 module _ (area bytes rest line after : List ℕ) (number : ℕ) (stage next : Stage)
     (so_far : wrong_line area number stage (file_lines rest) ≡ wrong_line area 1 Start (file_lines bytes))

@@ -1,20 +1,14 @@
 -- A packet of a repair is that of the model.
 use Rattle.std.proofs.Common.{◌≡◌, ℕ, suc, ◌+◌, Bool, true, false, List, [], ◌∷◌, ◌++◌, length, map, Option, Some, None, inl, inr, refl, sym, ap, subst, ◌∙◌}
-use Rattle.std.{proofs.lemmas.{Bool.cases_Bool, List.Sorted.list_any-IsPermutation}, specs.{Prelude.{◌&&◌, ◌||◌, not, bytes_eq, filter}, Io.KnownBytes.Appends, List.{AllByRecursion, list_any}}}
-use Rattle.base_file.specs.Base.{Base}
-use Rattle.echo_addr.specs.declared.address.Address.{Address}
-use Rattle.echo_charset.specs.Escaped.{escaped}
-use Rattle.echo_filed.specs.Filed.{Filed}
-use Rattle.echo_links.specs.Links.{LinkFile}
-use Rattle.echo_packet.specs.{Header.AreBytes, Packet.packet_bytes}
-use Rattle.echo_text.specs.Echo.{msgid_of}
-use Rattle.echo_toss.specs.declared.counting.CountedPacket.{CountedPacket}
-use Rattle.model_graph.specs.Walk.{Among}
-use Rattle.model_run.proofs.Lists.{filter-no, filter-yes}
+use Rattle.std.{proofs.lemmas.{Bool.cases_Bool, List.Sorted.list_any-IsPermutation}, specs.{Prelude.{◌&&◌, ◌||◌, not, bytes_eq, filter}, Io.KnownBytes.Appends}}
+use Rattle.{std.specs.List.{AllByRecursion, list_any}, base_file.specs.Base.Base, echo_addr.specs.declared.address.Address.Address}
+use Rattle.{echo_charset.specs.Escaped.escaped, echo_filed.specs.Filed.Filed, echo_links.specs.Links.LinkFile, echo_packet.specs.Header.AreBytes}
+use Rattle.{echo_packet.specs.Packet.packet_bytes, echo_text.specs.Echo.msgid_of, echo_toss.specs.declared.counting.CountedPacket.CountedPacket}
+use Rattle.{model_graph.specs.Walk.Among, model_run.proofs.Lists.{filter-no, filter-yes}, model_steps.specs.Resending.is_whole_in}
+use Rattle.{model_steps.specs.{Scanning.{copy_to, header_to}, declared.stamp.Stamp.Stamp}, cmd_repair.specs.IdList.{IsIdList, ListsIds, id_line, id_words}}
+use Rattle.cmd_repair.specs.{Ids.IsId, Repair.{SendsPacket, is_held, is_named, is_sent}, Rest.{HaveByteIds, SendsRest}}
+use Rattle.cmd_repair.{specs.Words.{area_words, end_words, id_word, is_id_line}, proofs.Unescaped.{AreSmall, id-small, same-test, taken}}
 use Rattle.model_run.specs.Repair as model
-use Rattle.model_steps.specs.{Resending.is_whole_in, Scanning.copy_to, Scanning.header_to, declared.stamp.Stamp.Stamp}
-use Rattle.cmd_repair.specs.{IdList.IsIdList, IdList.ListsIds, IdList.id_line, IdList.id_words, Ids.IsId, Repair.SendsPacket, Repair.is_held, Repair.is_named, Repair.is_sent, Rest.HaveByteIds, Rest.SendsRest, Words.area_words, Words.end_words, Words.id_word, Words.is_id_line}
-use Rattle.cmd_repair.proofs.Unescaped.{AreSmall, id-small, same-test, taken}
 
 bytes-small : (bs : List ℕ) → AreBytes bs → AreSmall bs
 bytes-small [] h = tt

@@ -1,18 +1,14 @@
 -- A packet of all messages of an area, message by message.
 use Rattle.std.proofs.Common.{◌≡◌, ℕ, ◌+◌, ◌<◌, ◌≤◌, List, [], ◌∷◌, ◌++◌, length, map, take, drop, Option, true, inl, sym, ap, subst, ◌∙◌, ⊎_elim, arith, append_assoc, length-append}
-use Rattle.std.proofs.lemmas.{Bool.cases_lt, List.drop_all, List.drop-append-le, List.length-take, List.length-take-le, List.map-append, List.Elements.filter-append}
-use Rattle.std.{proofs.KnownBytes.Appends-trans, specs.{Io.KnownBytes.Appends, Prelude.{filter, slice_get}}}
-use Rattle.base_file.specs.Base.{Base}
-use Rattle.base_folder.{specs.{Fetching.IsUnread, Source.SourceState}, proofs.Fetchings.unread_since}
-use Rattle.disk_io.specs.Device.{Failed}
-use Rattle.echo_addr.specs.declared.address.Address.{Address}
-use Rattle.echo_filed.specs.Filed.{Filed}
-use Rattle.echo_links.specs.Links.{LinkFile, upper}
-use Rattle.echo_packet.specs.{Header.header_bytes, Header.word, Message.Message, Message.messages_bytes}
-use Rattle.echo_toss.{proofs.Counts.messages_append, specs.declared.counting.CountedPacket.CountedPacket}
-use Rattle.model_steps.{proofs.Encoding.{header_size, packet_size}, specs.{Scanning.{copy_to, header_to}, Stamps.is_stamp, declared.stamp.Stamp.Stamp}}
-use Rattle.cmd_status.{specs.{Lines.PassesOn, declared.fault.Fault.Fault}, proofs.Lines.{none_added, passed_more, sent_after}}
-use Rattle.cmd_repair.{proofs.Gatherings.one_next, specs.declared.send_fault.SendFault.{SendFault, TheVariants.{Device, Messages}}}
+use Rattle.std.proofs.lemmas.{Bool.cases_lt, List.{drop_all, drop-append-le, length-take, length-take-le, map-append, Elements.filter-append}}
+use Rattle.{std.{proofs.KnownBytes.Appends-trans, specs.{Io.KnownBytes.Appends, Prelude.{filter, slice_get}}}, base_file.specs.Base.Base}
+use Rattle.{base_folder.{specs.{Fetching.IsUnread, Source.SourceState}, proofs.Fetchings.unread_since}, disk_io.specs.Device.Failed}
+use Rattle.{echo_addr.specs.declared.address.Address.Address, echo_filed.specs.Filed.Filed, echo_links.specs.Links.{LinkFile, upper}}
+use Rattle.{echo_packet.specs.{Header.{header_bytes, word}, Message.{Message, messages_bytes}}, echo_toss.proofs.Counts.messages_append}
+use Rattle.{echo_toss.specs.declared.counting.CountedPacket.CountedPacket, model_steps.proofs.Encoding.{header_size, packet_size}}
+use Rattle.{model_steps.specs.{Scanning.{copy_to, header_to}, Stamps.is_stamp, declared.stamp.Stamp.Stamp}, cmd_status.specs.Lines.PassesOn}
+use Rattle.{cmd_status.{specs.declared.fault.Fault.Fault, proofs.Lines.{none_added, passed_more, sent_after}}, cmd_repair.proofs.Gatherings.one_next}
+use Rattle.cmd_repair.specs.declared.send_fault.SendFault.{SendFault, TheVariants.{Device, Messages}}
 use Rattle.cmd_repair.specs.Repair.{AreLegibleFrom, IsStopped, IsUndone, IsUnsent, SendsPacket, copies_at, counted_packet, counted_with_copies, is_sent, nothing_counted, repair_packet, sent_copies}
 
 pub counted_more : (one other : List Message) (p q r : CountedPacket) → q ≡ counted_with_copies one p → r ≡ counted_with_copies other q → r ≡ counted_with_copies (one ++ other) p

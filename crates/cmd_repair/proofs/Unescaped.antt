@@ -1,8 +1,7 @@
 -- Escaped bytes are read back. So the words that are accepted as ids are those of ids, and each id has a word of its own.
 use Rattle.std.proofs.Common.{◌≡◌, ℕ, zero, suc, ◌+◌, ◌<◌, Bool, true, Option, Some, None, List, [], ◌∷◌, ◌++◌, length, drop, get_or, inl, inr, refl, sym, ap, subst, ◌∙◌, append_assoc, arith}
 use Rattle.std.{proofs.lemmas.{Bool.{cases_Bool, eqb-true, true≢false}, List.drop_more}, specs.Prelude.{◌==◌, ◌&&◌, nat_lt, bytes_eq}}
-use Rattle.std.specs.{Cmp.Lexicographic.bytes_decides, List.AllByRecursion, List.cons_option, List.fold, List.list_all}
-use Rattle.echo_charset.specs.Escaped.{escaped, escaped_byte}
+use Rattle.{std.specs.{Cmp.Lexicographic.bytes_decides, List.{AllByRecursion, cons_option, fold, list_all}}, echo_charset.specs.Escaped.{escaped, escaped_byte}}
 use Rattle.cmd_repair.specs.Ids.{IsId, IsWordOfId, byte_at, is_id, is_id_word, is_text_byte, next_state, unescaped}
 
 pub both : (a b : Bool) → (a && b) ≡ true → (a ≡ true) × (b ≡ true)

@@ -1,11 +1,9 @@
 -- A list of ids that is read: its first wrong line, and the words of its ids.
 use Rattle.std.specs.Prelude.{◌≡◌, ℕ, ◌+◌, ◌-◌, Bool, true, false, List, [], ◌∷◌, ◌++◌, ◌≤◌, codes, length, map, filter, if◌then◌else◌, bytes_eq, Option, Some, None, Result, Ok, Err, ◌⊎◌}
-use Rattle.std.specs.List.{AllByRecursion, Sorted.IsPermutation, list_any}
-use Rattle.echo_charset.specs.Escaped.{escaped}
-use Rattle.echo_links.specs.LinkLines.{file_lines}
-use Rattle.cmd_status.specs.{declared.fault.Fault.Fault, declared.fault.Fault.TheVariants.ListLine, Ended.IsOutOfMemory}
-use Rattle.cmd_repair.specs.declared.reading.Stage.{Stage, TheVariants.Start, TheVariants.Ids, TheVariants.Ended, TheVariants.Wrong}
-use Rattle.cmd_repair.specs.{Ids.IsId, Words.area_words, Words.end_words, Words.id_word, Words.is_end_line, Words.is_id_line, Words.most_messages}
+use Rattle.{std.specs.List.{AllByRecursion, list_any, Sorted.IsPermutation}, echo_charset.specs.Escaped.escaped, echo_links.specs.LinkLines.file_lines}
+use Rattle.{cmd_status.specs.{declared.fault.Fault.{Fault, TheVariants.ListLine}, Ended.IsOutOfMemory}, cmd_repair.specs.declared.reading.Stage.Stage}
+use Rattle.cmd_repair.specs.{declared.reading.Stage.TheVariants.{Start, Ids, Ended, Wrong}, Ids.IsId}
+use Rattle.cmd_repair.specs.Words.{area_words, end_words, id_word, is_end_line, is_id_line, most_messages}
 
 -- The next stage of a list of this area after a line, with this many ids before it.
 abbrev pub stage_after : List ℕ → ℕ → Stage → List ℕ → Stage

@@ -1,20 +1,12 @@
 -- A packet of all messages of an area for one link.
 use Rattle.std.specs.Prelude.{◌≡◌, ◌⊎◌, ℕ, ◌<◌, ◌≤◌, ◌&&◌, not, Bool, true, false, List, [], ◌∷◌, ◌++◌, ◌+◌, codes, length, drop, map, filter, bytes_eq, Option, Some, None}
-use Rattle.std.specs.{List.list_any, Io.KnownBytes.Appends}
-use Rattle.base_file.specs.Base.{Base}
-use Rattle.base_folder.specs.{Fetching.IsUnread, Source.SourceState}
-use Rattle.disk_io.specs.Device.{Failed}
-use Rattle.echo_addr.specs.{declared.address.Address.Address, Address.address_text}
-use Rattle.echo_charset.specs.Escaped.{escaped}
-use Rattle.echo_filed.specs.Filed.{Filed}
-use Rattle.echo_links.specs.Links.{LinkFile}
-use Rattle.echo_packet.specs.{Message.Message, Message.messages_bytes, Packet.packet_bytes}
-use Rattle.echo_text.specs.Echo.{msgid_of}
-use Rattle.echo_toss.specs.declared.counting.CountedPacket.{CountedPacket}
-use Rattle.model_steps.specs.{declared.fault.ScanFault.TheVariants.BadStamp, declared.packet.Packet.Packet, declared.stamp.Stamp.Stamp, Resending.is_whole_in, Scanning.copy_to, Scanning.header_to}
-use Rattle.model_steps.specs.Stamps.{is_stamp}
-use Rattle.cmd_status.specs.{declared.fault.Fault.TheVariants.Scan, Ended.IsOutOfMemory}
-use Rattle.cmd_repair.specs.declared.send_fault.SendFault.{SendFault, TheVariants.Messages, TheVariants.Device}
+use Rattle.{std.specs.{List.list_any, Io.KnownBytes.Appends}, base_file.specs.Base.Base, base_folder.specs.{Fetching.IsUnread, Source.SourceState}}
+use Rattle.{disk_io.specs.Device.Failed, echo_addr.specs.{declared.address.Address.Address, Address.address_text}, echo_charset.specs.Escaped.escaped}
+use Rattle.{echo_filed.specs.Filed.Filed, echo_links.specs.Links.LinkFile, echo_packet.specs.{Message.{Message, messages_bytes}, Packet.packet_bytes}}
+use Rattle.{echo_text.specs.Echo.msgid_of, echo_toss.specs.declared.counting.CountedPacket.CountedPacket}
+use Rattle.model_steps.specs.{declared.{fault.ScanFault.TheVariants.BadStamp, packet.Packet.Packet, stamp.Stamp.Stamp}, Resending.is_whole_in}
+use Rattle.{model_steps.specs.{Scanning.{copy_to, header_to}, Stamps.is_stamp}, cmd_status.specs.{declared.fault.Fault.TheVariants.Scan, Ended.IsOutOfMemory}}
+use Rattle.cmd_repair.specs.declared.send_fault.SendFault.{SendFault, TheVariants.{Messages, Device}}
 
 -- Whether a list of words names the id. A message without an id is in no list.
 abbrev pub is_named : List (List ℕ) → Option (List ℕ) → Bool

@@ -1,13 +1,7 @@
 -- What a repair sends, in the terms of the model.
-use Rattle.std.specs.{Prelude.{◌≡◌, ℕ, List, Option, Some}, Io.KnownBytes.Appends}
-use Rattle.base_file.specs.Base.{Base}
-use Rattle.echo_addr.specs.declared.address.Address.{Address}
-use Rattle.echo_filed.specs.Filed.{Filed}
-use Rattle.echo_links.specs.Links.{LinkFile}
-use Rattle.echo_packet.specs.{Header.AreBytes, Packet.packet_bytes}
-use Rattle.echo_text.specs.Echo.{msgid_of}
-use Rattle.model_graph.specs.Walk.{Among}
-use Rattle.model_run.specs.Repair.{rest_packet}
+use Rattle.{std.specs.{Prelude.{◌≡◌, ℕ, List, Option, Some}, Io.KnownBytes.Appends}, base_file.specs.Base.Base}
+use Rattle.{echo_addr.specs.declared.address.Address.Address, echo_filed.specs.Filed.Filed, echo_links.specs.Links.LinkFile, echo_packet.specs.Header.AreBytes}
+use Rattle.{echo_packet.specs.Packet.packet_bytes, echo_text.specs.Echo.msgid_of, model_graph.specs.Walk.Among, model_run.specs.Repair.rest_packet}
 use Rattle.model_steps.specs.declared.{packet.Packet.Packet, stamp.Stamp.Stamp}
 
 abbrev pub bytes_sent : Packet → List ℕ

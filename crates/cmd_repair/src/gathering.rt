@@ -1,10 +1,8 @@
 //! The ids of an area, gathered in one run of bytes, so that a million of them take little memory.
-ghost use Rattle.std.specs.Prelude.{◌≡◌, ◌++◌, ◌+◌, ◌<◌, ◌^◌, ◌∷◌, [], IfErr, IfOk, List, ℕ, OnOk, length, map, option_copied, slice_get, take};
-ghost use Rattle.std.specs.List.{flat_map};
+ghost use Rattle.std.specs.{Prelude.{◌≡◌, ◌++◌, ◌+◌, ◌<◌, ◌^◌, ◌∷◌, [], IfErr, IfOk, List, ℕ, OnOk, length, map, option_copied, slice_get, take}, List.flat_map};
+ghost use Rattle.{base_folder.specs.{Fetching.IsUnread, Source.AreLegible}, cmd_repair.specs.IdsListed.{Gathers, area_ids, area_messages, ids_at, messages_at}};
 ghost use Rattle.base_file.specs.Base as model;
-ghost use Rattle.base_folder.specs.{Fetching.IsUnread, Source.AreLegible};
 ghost use Rattle.echo_filed.specs.Filed as filed;
-ghost use Rattle.cmd_repair.specs.IdsListed.{Gathers, area_ids, area_messages, ids_at, messages_at};
 
 use base_folder::{MessageSource, fetch_message};
 use cmd_status::Fault;

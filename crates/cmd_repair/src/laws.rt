@@ -1,16 +1,10 @@
 //! Laws about lists of ids. Each is the contract of a function that does nothing.
-ghost use Rattle.std.specs.Prelude.{◌≡◌, ◌≤◌, ◌↔◌, List, [], None, Option, Some, length, true, ℕ};
-ghost use Rattle.base_file.specs.Base.{Base, IsBase, is_known};
-ghost use Rattle.cmd_status.specs.declared.status.Status.{Status};
-ghost use Rattle.echo_addr.specs.declared.address.Address.{Address};
-ghost use Rattle.echo_filed.specs.declared.key.Key.TheVariants.{ById};
-ghost use Rattle.echo_links.specs.Links.{LinkFile};
-ghost use Rattle.echo_toss.specs.declared.counting.CountedPacket.{CountedPacket};
-ghost use Rattle.echo_text.specs.Lines.{is_tag};
-ghost use Rattle.model_run.specs.Repair.{is_named};
-ghost use Rattle.model_steps.specs.declared.stamp.Stamp.{Stamp};
-ghost use Rattle.cmd_repair.specs.{IdList.{IsIdList, IsPrintedList, ListsIds, wrong_line}, Ids.{IsWordOfId, is_id_word}, Words.most_messages, declared.reading.Stage.TheVariants.Start};
-ghost use Rattle.cmd_repair.specs.{IdsListed.{AreIdsListed, area_ids, area_messages}, Repair.SendsPacket, Rest.HaveByteIds, Rest.SendsRest};
+ghost use Rattle.{std.specs.Prelude.{◌≡◌, ◌≤◌, ◌↔◌, List, [], None, Option, Some, length, true, ℕ}, base_file.specs.Base.{Base, IsBase, is_known}};
+ghost use Rattle.{cmd_status.specs.declared.status.Status.Status, echo_addr.specs.declared.address.Address.Address, cmd_repair.specs.Rest.{HaveByteIds, SendsRest}};
+ghost use Rattle.{echo_filed.specs.declared.key.Key.TheVariants.ById, echo_links.specs.Links.LinkFile, echo_toss.specs.declared.counting.CountedPacket.CountedPacket};
+ghost use Rattle.{echo_text.specs.Lines.is_tag, model_run.specs.Repair.is_named, model_steps.specs.declared.stamp.Stamp.Stamp};
+ghost use Rattle.cmd_repair.specs.{IdList.{IsIdList, IsPrintedList, ListsIds, wrong_line}, Ids.{IsWordOfId, is_id_word}, Words.most_messages};
+ghost use Rattle.cmd_repair.specs.{declared.reading.Stage.TheVariants.Start, IdsListed.{AreIdsListed, area_ids, area_messages}, Repair.SendsPacket};
 
 /// A list has no wrong line exactly if its lines are those of an area and its ids, in any order and perhaps twice.
 pub fn right_lists_are_printed_ones()

@@ -1,9 +1,8 @@
 -- The answer of `show`, from those of its parts.
 use Rattle.std.{proofs.Common.{◌≡◌, ℕ, Bool, List, [], Option, Result, Ok, Err, sym, subst, ◌∙◌, inl, inr, arith}, specs.Io.KnownBytes.Appends}
-use Rattle.cmd_status.specs.{declared.fault.Fault.Fault, declared.status.Status.Status, Devices.Output, Ended.CannotPrint, Ended.PassesAll, Lines.WritesFront}
-use Rattle.cmd_status.proofs.Lines.{begun_after, begun_kept, nothing_begun, sent_after}
-use Rattle.cmd_show.specs.{Showing.AllShown, Showing.IsCutShort, Showing.PacketAnswers, Showing.PacketPasses, Showing.SomeShown, Written.AddsLines, Written.BeginsLines, Written.WritesLines}
-use Rattle.cmd_show.proofs.Stopping.{passes_le, print_later}
+use Rattle.cmd_status.specs.{declared.{fault.Fault.Fault, status.Status.Status}, Devices.Output, Ended.{CannotPrint, PassesAll}, Lines.WritesFront}
+use Rattle.{cmd_status.proofs.Lines.{begun_after, begun_kept, nothing_begun, sent_after}, cmd_show.proofs.Stopping.{passes_le, print_later}}
+use Rattle.cmd_show.specs.{Showing.{AllShown, IsCutShort, PacketAnswers, PacketPasses, SomeShown}, Written.{AddsLines, BeginsLines, WritesLines}}
 
 all_out : (P : List ℕ → Type 0) (a b c : Option (List ℕ)) (rest : List ℕ) → AddsLines P [] rest a b → Appends b c rest → WritesLines P a c
 all_out P a b c rest added went = record { lines = added.lines; are = added.are; written = sent_after a b c added.lines rest added.passed went }

@@ -1,11 +1,8 @@
 -- The lines and the answer of `export`, from those of its parts.
 use Rattle.std.proofs.Common.{◌≡◌, ℕ, zero, suc, ◌+◌, ◌≤◌, ◌<◌, List, [], ◌++◌, length, Option, option_map, Err, refl, sym, ap, subst, ◌∙◌, add-one, arith, inl}
-use Rattle.std.{proofs.lemmas.Bool.lt-leb, specs.{Prelude.{Bool, slice_get}, Io.KnownBytes.Appends}}
-use Rattle.base_file.specs.Base.{Base}
-use Rattle.echo_export.specs.declared.form.Form.{Form}
-use Rattle.echo_links.specs.Links.{upper}
-use Rattle.echo_filed.specs.Filed.{Filed}
-use Rattle.cmd_status.specs.{declared.fault.Fault.Fault, Devices.Output, Ended.CannotPrint, Ended.IsBegun, Ended.IsDone, Ended.PassesAll, Lines.PassesOn, Lines.WritesFront}
+use Rattle.{std.{proofs.lemmas.Bool.lt-leb, specs.{Prelude.{Bool, slice_get}, Io.KnownBytes.Appends}}, base_file.specs.Base.Base}
+use Rattle.{echo_export.specs.declared.form.Form.Form, echo_links.specs.Links.upper, echo_filed.specs.Filed.Filed, cmd_status.specs.declared.fault.Fault.Fault}
+use Rattle.cmd_status.specs.{Devices.Output, Ended.{CannotPrint, IsBegun, IsDone, PassesAll}, Lines.{PassesOn, WritesFront}}
 use Rattle.cmd_status.proofs.Lines.{begun_after, begun_more, none_added, passed_more, sent_after}
 use Rattle.cmd_show.{specs.{Exporting.{IsExported, sought_count, sought_lost, sought_text, sought_texts}, Fetching.PrintsReading}, proofs.Pushed.begun_within}
 

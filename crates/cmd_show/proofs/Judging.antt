@@ -1,15 +1,14 @@
 -- The judgement on a line, from those on its parts.
 use Rattle.std.proofs.Common.{◌≡◌, ℕ, ◌||◌, not, Bool, true, false, cond, List, [], ◌∷◌, length, map, codes, refl, sym, ap, subst, ◌∙◌, Option, Some, None, Result, Ok, Err, nat_lt, arith}
-use Rattle.std.proofs.lemmas.Bool.{cases_Bool, cond-false, cond-true, not_from_true}
-use Rattle.std.specs.{Prelude.IfOk, Prelude.bytes_eq, Prelude.filter, Prelude.is_err, Cmp.Lexicographic.bytes_decides, List.list_any}
-use Rattle.echo_addr.specs.{Address.address_in, Address.outcome, Entries.tokens}
-use Rattle.echo_text.specs.Lines.{is_tag, trimmed}
+use Rattle.std.{proofs.lemmas.Bool.{cases_Bool, cond-false, cond-true, not_from_true}, specs.Prelude.{IfOk, bytes_eq, filter, is_err}}
+use Rattle.{std.specs.{Cmp.Lexicographic.bytes_decides, List.list_any}, echo_addr.specs.{Address.{address_in, outcome}, Entries.tokens}}
+use Rattle.{echo_text.specs.Lines.{is_tag, trimmed}, cmd_show.specs.declared.words.FaultyWord.FaultyWord}
 use Rattle.echo_links.specs.LinkLines.{after_first_of, area_fault, first_of, has_word, is_area_line, is_control_byte, is_name_line, is_one_address, is_skipped, is_system_line, line_fault, links_fault, name_fault, name_in, system_fault, tag_in, words}
-use Rattle.echo_links.specs.{declared.fault.LinkFault.LinkFault, Links.same_address, Links.upper, LinkReading.name_refusal, LinkReading.system_refusal}
-use Rattle.echo_links.specs.declared.fault.LinkFault.TheVariants as fault
-use Rattle.echo_links.proofs.{LinkBytes.name_trimmed, LinkBytes.no_feed, LinkBytes.skipped_word, LinkBytes.tokens_words, LinkFiles.other_word, LinkTaking.IsCut}
-use Rattle.cmd_show.specs.{FaultyLines.link_again, FaultyLines.no_address, FaultyLines.not_one_address, FaultyLines.unknown_word, FaultyLines.word_with_control, FaultyLines.wrong_word, declared.words.FaultyWord.FaultyWord}
+use Rattle.echo_links.specs.{declared.fault.LinkFault.LinkFault, Links.{same_address, upper}, LinkReading.{name_refusal, system_refusal}}
+use Rattle.echo_links.proofs.{LinkBytes.{name_trimmed, no_feed, skipped_word, tokens_words}, LinkFiles.other_word, LinkTaking.IsCut}
+use Rattle.cmd_show.specs.FaultyLines.{link_again, no_address, not_one_address, unknown_word, word_with_control, wrong_word}
 use Rattle.cmd_show.specs.Before.{HasTagAdded, IsBefore, JudgesLine, SaidBefore, Tells, area_refused, area_says, links_say, name_says, system_says}
+use Rattle.echo_links.specs.declared.fault.LinkFault.TheVariants as fault
 
 -- ---- the parts after one more good line
 

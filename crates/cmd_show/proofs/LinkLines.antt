@@ -1,9 +1,7 @@
 -- The lines of `links`, from those of its parts.
 use Rattle.std.proofs.Common.{◌≡◌, ℕ, ◌+◌, ◌<◌, List, [], ◌∷◌, ◌++◌, length, map, sum, take, sym, ap, ◌∙◌, arith, Option, Some, inl, inr}
 use Rattle.std.{proofs.lemmas.{List.{take_more, Sums.{sum-map, sum_by-append}}, Option.slice_get_cases}, specs.Prelude.{option_map, slice_get, unwrap_or}}
-use Rattle.echo_addr.specs.declared.address.Address.{Address}
-use Rattle.echo_links.specs.Links.{Area, LinkFile, area_of, links_of}
-use Rattle.cmd_show.specs.LinksShown.{area_links}
+use Rattle.{echo_addr.specs.declared.address.Address.Address, echo_links.specs.Links.{Area, LinkFile, area_of, links_of}, cmd_show.specs.LinksShown.area_links}
 
 sum_last : {X : Type 0} (f : X → ℕ) (xs : List X) (x : X) → sum (map f (xs ++ x ∷ [])) ≡ sum (map f xs) + f x
 sum_last f xs x = grind (arith, sum-map, sum_by-append)

@@ -1,12 +1,10 @@
 -- The lines and the answer of `list`, from those of its parts.
 use Rattle.std.proofs.Common.{◌≡◌, ℕ, zero, suc, ◌+◌, ◌-◌, ◌≤◌, ◌<◌, List, [], ◌++◌, length, Option, None, Some, option_map, Err, refl, sym, ap, subst, ◌∙◌, append-nil, arith, inl}
 use Rattle.std.{proofs.lemmas.{Bool.lt-leb, Grind.flat_map-append}, specs.{Prelude.{slice_get, if◌then◌else◌, ◌&&◌}, Io.KnownBytes.Appends}}
-use Rattle.base_file.specs.Base.{Base}
-use Rattle.echo_links.specs.Links.{upper}
-use Rattle.echo_filed.specs.Filed.{Filed}
-use Rattle.cmd_status.specs.{declared.fault.Fault.Fault, declared.status.Status.TheVariants.Good, Devices.Output, Ended.CannotPrint, Ended.IsBegun, Ended.IsDone, Ended.PassesAll, Lines.PassesOn, Lines.WritesFront}
-use Rattle.cmd_status.proofs.Lines.{begun_after, begun_more, front_more, none_added, passed_more, sent_after}
-use Rattle.cmd_print.specs.{BaseListed.asked_text, BaseListed.base_text, BaseListed.is_of_area, BaseListed.listed_text, BaseListed.messages_text, BaseListed.total_text, declared.list_form.ListForm.ListForm}
+use Rattle.{base_file.specs.Base.Base, echo_links.specs.Links.upper, echo_filed.specs.Filed.Filed, cmd_status.specs.declared.fault.Fault.Fault}
+use Rattle.cmd_status.specs.{declared.status.Status.TheVariants.Good, Devices.Output, Ended.{CannotPrint, IsBegun, IsDone, PassesAll}}
+use Rattle.cmd_status.{specs.Lines.{PassesOn, WritesFront}, proofs.Lines.{begun_after, begun_more, front_more, none_added, passed_more, sent_after}}
+use Rattle.cmd_print.specs.{BaseListed.{asked_text, base_text, is_of_area, listed_text, messages_text, total_text}, declared.list_form.ListForm.ListForm}
 use Rattle.cmd_show.{specs.{Fetching.PrintsReading, Listing.IsListed}, proofs.{Entries.range_more, Pushed.{added, begun_within}}}
 
 pub messages_more : (form : ListForm) (area : Option (List ℕ)) (first : ℕ) (base : List Filed) (cursor n : ℕ)

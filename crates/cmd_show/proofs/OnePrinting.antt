@@ -1,12 +1,11 @@
-use Rattle.std.specs.{Prelude.IsErr, Io.KnownBytes.Appends}
+use Rattle.{std.specs.{Prelude.IsErr, Io.KnownBytes.Appends}, cmd_show.specs.Written.WritesLines}
 use Rattle.std.proofs.Common.{◌≡◌, ℕ, ◌+◌, Bool, true, false, List, [], ◌∷◌, ◌++◌, length, Option, Some, None, Result, Ok, Err, refl, sym, ap, subst, ◌∙◌, inl, inr, arith}
-use Rattle.echo_packet.specs.{declared.header.Header.Header, Message.Message, Message.message_bytes, Answer.Answer, Answer.Describes, Answer.Found}
-use Rattle.echo_packet.proofs.Outcome.{only_one, outcome}
-use Rattle.echo_text.{specs.{declared.fault.TextFault.TextFault, Refusal.text_refusal}, proofs.OneReading.{one_count, one_echo}}
-use Rattle.cmd_status.specs.{Devices.Output, declared.fault.Fault.Fault, declared.fault.Fault.TheVariants.BadHex, declared.fault.Fault.TheVariants.Packet, declared.status.Status.Status, declared.status.Status.TheVariants.Good, Ended.IsOfInput, Ended.Stops, Limits.show_limits}
-use Rattle.hex.specs.{Hex.decode_of, declared.error.FromHexError.FromHexError}
-use Rattle.cmd_print.specs.{Shown.MessageShown, Shown.MessagesShown, Shown.Shown, Shown.message_lines, Shown.whole_text, Said.LinesFor}
-use Rattle.cmd_show.specs.{Showing.AllShown, Showing.IsCutShort, Showing.IsShown, Showing.PacketStops, Showing.ShowAnswers, Showing.IsInputOf, Showing.hex_text, Written.WritesLines}
+use Rattle.echo_packet.specs.{declared.header.Header.Header, Message.{Message, message_bytes}, Answer.{Answer, Describes, Found}}
+use Rattle.{echo_packet.proofs.Outcome.{only_one, outcome}, echo_text.specs.{declared.fault.TextFault.TextFault, Refusal.text_refusal}}
+use Rattle.{echo_text.proofs.OneReading.{one_count, one_echo}, cmd_status.specs.{Devices.Output, declared.fault.Fault.{Fault, TheVariants.{BadHex, Packet}}}}
+use Rattle.{cmd_status.specs.{declared.status.Status.{Status, TheVariants.Good}, Ended.{IsOfInput, Stops}, Limits.show_limits}, hex.specs.Hex.decode_of}
+use Rattle.{hex.specs.declared.error.FromHexError.FromHexError, cmd_print.specs.Shown.{MessageShown, MessagesShown, Shown, message_lines, whole_text}}
+use Rattle.{cmd_print.specs.Said.LinesFor, cmd_show.specs.Showing.{AllShown, IsCutShort, IsShown, PacketStops, ShowAnswers, IsInputOf, hex_text}}
 
 one_said : (r : Option TextFault) (text a b : List ℕ) → LinesFor r text a → LinesFor r text b → a ≡ b
 one_said r text a b h1 h2 = grind (arith, one_echo, one_count)

@@ -1,7 +1,6 @@
 -- Lines that follow those held back, on their way to standard output.
 use Rattle.std.proofs.Common.{◌≡◌, ℕ, ◌+◌, ◌-◌, ◌≤◌, List, [], ◌++◌, Option, sym, ap, subst, ◌∙◌, append_assoc, append-nil, zero, suc, arith}
-use Rattle.cmd_print.specs.Pushed.{Pushes}
-use Rattle.cmd_status.{specs.Lines.{PassesOn, WritesFront}, proofs.Lines.{alone, front_more, none_passed}}
+use Rattle.{cmd_print.specs.Pushed.Pushes, cmd_status.{specs.Lines.{PassesOn, WritesFront}, proofs.Lines.{alone, front_more, none_passed}}}
 use Rattle.cmd_show.specs.Written.{AddsLines}
 
 pub added_behind : (none line more behind all : List ℕ) → none ≡ [] → more ≡ none ++ line → all ≡ behind ++ more → all ≡ behind ++ line

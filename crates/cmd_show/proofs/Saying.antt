@@ -1,8 +1,7 @@
 -- The printed parts of a text.
-use Rattle.std.proofs.Common.{◌≡◌, ℕ, Bool, List, ◌++◌, sym, subst, append_assoc, arith}
-use Rattle.echo_packet.specs.Message.{IsMessage, Message}
-use Rattle.echo_text.{specs.{Echo.{EchoOf, EchoText, HasNoZero}, Lines.lines}, proofs.SaidAfter.not_refused}
-use Rattle.cmd_print.specs.{Said.TextShown, Said.echo_lines, Shown.MessageShown, Shown.message_lines, Shown.whole_text, Pushed.Pushes}
+use Rattle.{std.proofs.Common.{◌≡◌, ℕ, Bool, List, ◌++◌, sym, subst, append_assoc, arith}, echo_packet.specs.Message.{IsMessage, Message}}
+use Rattle.{echo_text.{specs.{Echo.{EchoOf, EchoText, HasNoZero}, Lines.lines}, proofs.SaidAfter.not_refused}, cmd_print.specs.Said.{TextShown, echo_lines}}
+use Rattle.cmd_print.specs.{Shown.{MessageShown, message_lines, whole_text}, Pushed.Pushes}
 
 pub text_has_no_zero : (most : ℕ) (m : Message) (text : List ℕ) → text ≡ m.text → IsMessage most m → HasNoZero text
 text_has_no_zero most m text is fits = subst HasNoZero (sym is) fits.text.no_zero

@@ -1,8 +1,6 @@
 -- Faults of the machine: standard output failed, or memory ran out.
-use Rattle.std.proofs.Common.{ℕ, ◌≤◌, Bool, List, Result, arith}
-use Rattle.disk_io.proofs.Devices.{Failed-le}
-use Rattle.base_store.proofs.Causes.{failed_since}
-use Rattle.cmd_status.specs.{declared.fault.Fault.Fault, declared.fault.Fault.TheVariants.CannotUse, declared.status.Status.Status, Devices.Output, Ended.CannotPrint}
+use Rattle.{std.proofs.Common.{ℕ, ◌≤◌, Bool, List, Result, arith}, disk_io.proofs.Devices.Failed-le, base_store.proofs.Causes.failed_since}
+use Rattle.cmd_status.specs.{declared.{fault.Fault.{Fault, TheVariants.CannotUse}, status.Status.Status}, Devices.Output, Ended.CannotPrint}
 use Rattle.cmd_show.specs.Showing.{PacketPasses}
 
 print_le : (fault : Fault) (a b : ℕ) → CannotPrint a b fault → a ≤ b

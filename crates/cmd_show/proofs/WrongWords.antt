@@ -1,11 +1,9 @@
 -- The wrong word in a line, found word by word.
 use Rattle.std.proofs.{Common.{◌≡◌, ℕ, ◌||◌, Bool, true, false, cond, List, [], ◌∷◌, map, sym, ap, ◌∙◌, Some, None, arith}, lemmas.Bool.{cond-false, cond-true}}
-use Rattle.std.specs.{Prelude.is_err, List.list_any, Ordering.is_eq}
-use Rattle.echo_addr.specs.{declared.address.Address.Address, Address.address_in, Address.outcome}
-use Rattle.echo_links.specs.{Links.same_address, LinkLines.links_fault, LinkReading.IsWordOf, Found.HaveTheSame, Found.address_order}
+use Rattle.{std.specs.{Prelude.is_err, List.list_any, Ordering.is_eq}, echo_addr.specs.{declared.address.Address.Address, Address.{address_in, outcome}}}
+use Rattle.echo_links.{specs.{Links.same_address, LinkLines.links_fault, LinkReading.IsWordOf, Found.{HaveTheSame, address_order}}, proofs.Found.link_found}
+use Rattle.{echo_links.proofs.LinkLoops.any_last, cmd_show.specs.FaultyLines.{link_again, no_address}}
 use Rattle.echo_links.specs.declared.fault.LinkFault.TheVariants as fault
-use Rattle.echo_links.proofs.{Found.link_found, LinkLoops.any_last}
-use Rattle.cmd_show.specs.FaultyLines.{link_again, no_address}
 
 -- ---- after SYSTEM
 

@@ -1,12 +1,9 @@
 -- The lines and the answer of `list --areas`.
 use Rattle.std.specs.Prelude.{◌≡◌, ◌≤◌, ℕ, ◌+◌, ◌-◌, ◌&&◌, Bool, List, ◌++◌, length, take, drop, codes, decimal, bytes_eq, count_by, is_some, Option, unwrap_or}
-use Rattle.std.specs.{Ordering.is_eq, Ordering.nat_cmp, Cmp.Lexicographic.slice_cmp, List.flat_map, List.list_any, List.Sorted.IsStrictlySortedBy, Map.keys_of, Map.lookup}
-use Rattle.echo_export.specs.declared.json_line.MessageState.{MessageState, TheVariants.Purged, TheVariants.Scanned, TheVariants.Waiting}
-use Rattle.base_file.specs.Base.{Base}
-use Rattle.echo_filed.specs.Filed.{Filed}
-use Rattle.cmd_print.specs.BaseListed.{is_purged, total_text}
-use Rattle.cmd_show.specs.declared.area_counts.AreaCounts.{AreaCounts}
-use Rattle.cmd_status.specs.{declared.status.Status.Status, declared.status.Status.TheVariants.Good}
+use Rattle.std.specs.{Ordering.{is_eq, nat_cmp}, Cmp.Lexicographic.slice_cmp, List.{flat_map, list_any, Sorted.IsStrictlySortedBy}, Map.{keys_of, lookup}}
+use Rattle.{echo_export.specs.declared.json_line.MessageState.{MessageState, TheVariants.{Purged, Scanned, Waiting}}, base_file.specs.Base.Base}
+use Rattle.{echo_filed.specs.Filed.Filed, cmd_print.specs.BaseListed.{is_purged, total_text}, cmd_show.specs.declared.area_counts.AreaCounts.AreaCounts}
+use Rattle.cmd_status.specs.declared.status.Status.{Status, TheVariants.Good}
 
 abbrev pub is_in : List ℕ → Filed → Bool
 is_in tag m = bytes_eq tag m.echo.tag

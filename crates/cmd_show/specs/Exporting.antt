@@ -1,9 +1,7 @@
 -- The lines of `export` for the messages of a base, and its answer.
 use Rattle.std.specs.Prelude.{◌≡◌, ℕ, zero, suc, ◌+◌, ◌==◌, ◌&&◌, nat_le, Bool, true, false, List, [], ◌++◌, length, codes, decimal, if◌then◌else◌, slice_get, Option, Some, None, option_map}
-use Rattle.echo_export.specs.{declared.json_line.MessageState.MessageState, declared.json_line.MessageState.TheVariants.Purged, declared.json_line.MessageState.TheVariants.Scanned, declared.json_line.MessageState.TheVariants.Waiting, declared.form.Form.Form, Forms.message_lost, Forms.message_text}
-use Rattle.base_file.specs.Base.{Base}
-use Rattle.echo_filed.specs.Filed.{Filed}
-use Rattle.echo_links.specs.Links.{upper}
+use Rattle.echo_export.specs.declared.{json_line.MessageState.{MessageState, TheVariants.{Purged, Scanned, Waiting}}, form.Form.Form}
+use Rattle.{echo_export.specs.Forms.{message_lost, message_text}, base_file.specs.Base.Base, echo_filed.specs.Filed.Filed, echo_links.specs.Links.upper}
 use Rattle.cmd_print.specs.BaseListed.{is_asked, is_purged}
 
 -- The state of a message, by whether it waits for a scan and whether only the id of its text is left.

@@ -1,10 +1,9 @@
 -- All faulty lines of a link file, each with the word that is wrong in it.
 use Rattle.std.specs.{Prelude.{ℕ, ◌+◌, Bool, true, false, List, [], ◌∷◌, map, if◌then◌else◌, Option, Some, None, is_err}, List.list_any}
-use Rattle.echo_addr.specs.{Address.address_in, Address.outcome, Entries.tokens}
+use Rattle.echo_addr.specs.{Address.{address_in, outcome}, Entries.tokens}
 use Rattle.echo_links.specs.LinkLines.{after_first_of, file_fault, file_lines, first_of, is_control_byte, is_system_line, line_fault, links_in, name_in, words}
-use Rattle.echo_links.specs.{declared.fault.LinkFault.LinkFault, Links.same_address}
+use Rattle.{echo_links.specs.{declared.fault.LinkFault.LinkFault, Links.same_address}, cmd_show.specs.declared.faulty.FaultyLine.FaultyLine}
 use Rattle.echo_links.specs.declared.fault.LinkFault.TheVariants as fault
-use Rattle.cmd_show.specs.declared.faulty.FaultyLine.{FaultyLine}
 
 -- The first word that has a control byte.
 abbrev pub word_with_control : List (List ℕ) → List ℕ

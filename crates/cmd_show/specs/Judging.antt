@@ -1,8 +1,7 @@
 -- A link file judged as a whole.
-use Rattle.std.specs.Prelude.{◌≡◌, ℕ, Bool, true, false, List, Ok, Err}
-use Rattle.echo_links.specs.{declared.fault.LinkFault.LinkFault, LinkLines.LinksOf}
+use Rattle.{std.specs.Prelude.{◌≡◌, ℕ, Bool, true, false, List, Ok, Err}, echo_links.specs.{declared.fault.LinkFault.LinkFault, LinkLines.LinksOf}}
+use Rattle.cmd_show.specs.{declared.judged.Judged.{Judged, TheVariants.{Good, Faulty}}, FaultyLines.faults_of}
 use Rattle.echo_links.specs.declared.fault.LinkFault.TheVariants as fault
-use Rattle.cmd_show.specs.{declared.judged.Judged.Judged, declared.judged.Judged.TheVariants.Good, declared.judged.Judged.TheVariants.Faulty, FaultyLines.faults_of}
 
 -- Whether memory ran out, which is no fault of the bytes.
 abbrev pub is_memory : LinkFault → Bool

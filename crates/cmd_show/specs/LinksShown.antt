@@ -1,10 +1,9 @@
 -- The lines of `links` for link files.
 use Rattle.std.specs.{Prelude.{ℕ, Bool, List, [], ◌++◌, codes, decimal, length, map, sum, if◌then◌else◌, Option, Some, None}, List.flat_map}
-use Rattle.echo_addr.specs.Address.{address_text}
-use Rattle.echo_charset.specs.{Escaped.escaped_line, Words.printed_word}
-use Rattle.echo_links.specs.{declared.fault.LinkFault.LinkFault, Links.Area, Links.LinkFile, Links.links_of, LinkLines.file_fault, LinkLines.file_of}
+use Rattle.{echo_addr.specs.Address.address_text, echo_charset.specs.{Escaped.escaped_line, Words.printed_word}}
+use Rattle.echo_links.specs.{declared.fault.LinkFault.LinkFault, Links.{Area, LinkFile, links_of}, LinkLines.{file_fault, file_of}}
+use Rattle.cmd_show.specs.{declared.{faulty.FaultyLine.FaultyLine, linking.NamedFile.NamedFile}, FaultyLines.faults_of}
 use Rattle.echo_links.specs.declared.fault.LinkFault.TheVariants as fault
-use Rattle.cmd_show.specs.{declared.faulty.FaultyLine.FaultyLine, FaultyLines.faults_of, declared.linking.NamedFile.NamedFile}
 
 abbrev pub area_links : LinkFile → Area → ℕ
 area_links file area = length (links_of file area.tag)

@@ -1,9 +1,8 @@
 -- The answer of `nodelist`.
-use Rattle.std.specs.Prelude.{◌≡◌, ℕ, List, Option, Result}
-use Rattle.echo_addr.specs.declared.address.Address.{Address}
-use Rattle.cmd_status.specs.{Devices.Output, declared.fault.Fault.Fault, declared.fault.Fault.TheVariants.Nodelist, declared.status.Status.Status, declared.status.Status.TheVariants.Good, declared.status.Status.TheVariants.Differs, Ended.AnswersInPieces}
-use Rattle.echo_nodelist.specs.{declared.stated.CrcLine.CrcLine, declared.stated.CrcLine.TheVariants.Mismatch, declared.line.Line.Line, declared.fault.NodeFault.NodeFault, CrcLine.crc_line_of, Nodelist.NodelistFaultOf, Nodelist.NodelistOf}
-use Rattle.cmd_print.specs.Listed.{Listed}
+use Rattle.{std.specs.Prelude.{◌≡◌, ℕ, List, Option, Result}, echo_addr.specs.declared.address.Address.Address, cmd_status.specs.Devices.Output}
+use Rattle.cmd_status.specs.{declared.{fault.Fault.{Fault, TheVariants.Nodelist}, status.Status.{Status, TheVariants.{Good, Differs}}}, Ended.AnswersInPieces}
+use Rattle.echo_nodelist.specs.{declared.{stated.CrcLine.{CrcLine, TheVariants.Mismatch}, line.Line.Line, fault.NodeFault.NodeFault}, CrcLine.crc_line_of}
+use Rattle.{echo_nodelist.specs.Nodelist.{NodelistFaultOf, NodelistOf}, cmd_print.specs.Listed.Listed}
 
 -- 1 if the stated checksum differs from the computed one.
 abbrev pub crc_status : CrcLine → Status

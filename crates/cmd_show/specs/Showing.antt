@@ -1,11 +1,10 @@
 -- The bytes that an input of `show` encodes, and the result of `show`.
 use Rattle.std.specs.Prelude.{◌≡◌, ℕ, ◌⊎◌, ◌++◌, Bool, true, List, [], Option, Result, Ok, Err, IsErr, Vec, length, filter, ◌≤◌, take, not, false, ◌||◌, ◌==◌}
-use Rattle.std.specs.declared.alloc.Global.{Global}
-use Rattle.cmd_status.specs.{Devices.Output, declared.fault.Fault.Fault, declared.fault.Fault.TheVariants.BadHex, declared.fault.Fault.TheVariants.OutOfMemory, declared.fault.Fault.TheVariants.Packet, declared.status.Status.Status, declared.status.Status.TheVariants.Good, Ended.CannotPrint, Ended.PassesAll, Ended.IsOutOfMemory, Limits.show_limits}
-use Rattle.hex.specs.Hex.{decode_of}
-use Rattle.echo_packet.specs.{declared.header.Header.Header, declared.fault.PacketFault.PacketFault, Header.IsHeader, Header.header_bytes, Fault.FaultOf, Message.AreMessages, Message.Message, Message.messages_bytes, Reader.FrontFault, Packet.PacketOf}
-use Rattle.cmd_print.specs.Shown.{MessageShown, MessagesShown, Shown, header_lines}
-use Rattle.cmd_show.specs.Written.{AddsLines, BeginsLines, BeginsMore, WritesLines}
+use Rattle.{std.specs.declared.alloc.Global.Global, cmd_status.specs.{Devices.Output, declared.fault.Fault.{Fault, TheVariants.{BadHex, OutOfMemory, Packet}}}}
+use Rattle.cmd_status.specs.{declared.status.Status.{Status, TheVariants.Good}, Ended.{CannotPrint, PassesAll, IsOutOfMemory}, Limits.show_limits}
+use Rattle.{hex.specs.Hex.decode_of, echo_packet.specs.{declared.{header.Header.Header, fault.PacketFault.PacketFault}, Header.{IsHeader, header_bytes}}}
+use Rattle.echo_packet.specs.{Fault.FaultOf, Message.{AreMessages, Message, messages_bytes}, Reader.FrontFault, Packet.PacketOf}
+use Rattle.{cmd_print.specs.Shown.{MessageShown, MessagesShown, Shown, header_lines}, cmd_show.specs.Written.{AddsLines, BeginsLines, BeginsMore, WritesLines}}
 
 -- A byte that lays out hexadecimal text: a blank, a tab or a part of a line end.
 abbrev pub is_layout : ℕ → Bool

@@ -1,9 +1,8 @@
 //! `list --areas`: how many messages of each area a base has.
 ghost use Rattle.std.specs.{Prelude.{◌≡◌, ◌<◌, ◌^◌, ◌+◌, ◌++◌, ℕ, List, IfErr, IfOk, OnOk, option_copied, slice_get, take, length}, List.flat_map};
-ghost use Rattle.base_file.specs.Base as model;
 ghost use Rattle.cmd_show.specs.AreasListed.{AreListed, Ascend, AreWithin, HaveCounts, area_line, counted_more, counts_of, counts_text};
-ghost use Rattle.base_folder.specs.Fetching.{CannotRead, IsUnread};
-ghost use Rattle.cmd_status.specs.{declared.status.Status.TheVariants.Good, Devices.output_of, Ended.Answers};
+ghost use Rattle.{base_folder.specs.Fetching.{CannotRead, IsUnread}, cmd_status.specs.{declared.status.Status.TheVariants.Good, Devices.output_of, Ended.Answers}};
+ghost use Rattle.base_file.specs.Base as model;
 ghost use Rattle.echo_filed.specs.Filed as filed;
 
 use crate::exporting::state_of;

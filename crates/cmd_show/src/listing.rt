@@ -1,9 +1,7 @@
-ghost use Rattle.std.specs.Prelude.{◌≡◌, ◌++◌, IfErr, IfOk, OnOk, OnErr, length, option_copied, option_map};
+ghost use Rattle.{std.specs.Prelude.{◌≡◌, ◌++◌, IfErr, IfOk, OnOk, OnErr, length, option_copied, option_map}, cmd_status.specs.{Devices.output_of, Ended.Stops}};
+ghost use Rattle.{cmd_status.specs.Lines.{PassesOn, WritesFront}, echo_links.specs.Links.upper, cmd_show.specs.Listing.IsListed};
+ghost use Rattle.{cmd_print.specs.BaseListed.{asked_text, is_asked, is_of_area, messages_text}, cmd_show.specs.Fetching.{PrintsReading, StopsReading}};
 ghost use Rattle.base_file.specs.Base as model;
-ghost use Rattle.cmd_status.specs.{Devices.output_of, Ended.Stops, Lines.PassesOn, Lines.WritesFront};
-ghost use Rattle.echo_links.specs.Links.{upper};
-ghost use Rattle.cmd_print.specs.BaseListed.{asked_text, is_asked, is_of_area, messages_text};
-ghost use Rattle.cmd_show.specs.{Fetching.PrintsReading, Fetching.StopsReading, Listing.IsListed};
 
 use base_folder::{MessageSource, fetch_message, start_number};
 use cmd_print::{ListForm, push_base_total, push_listed};

@@ -1,6 +1,5 @@
-ghost use Rattle.std.specs.Prelude.{◌≡◌, ◌⊎◌, ◌++◌, IfErr, None, OnOk, OnErr};
-ghost use Rattle.cmd_status.specs.{Devices.output_of, Ended.IsOutOfMemory, Ended.Stops, Lines.PassesOn, Lines.WritesFront};
-ghost use Rattle.cmd_show.specs.{Nodelists.NodelistAnswers, Nodelists.crc_status, Written.AddsLines, Written.BeginsMore};
+ghost use Rattle.{std.specs.Prelude.{◌≡◌, ◌⊎◌, ◌++◌, IfErr, None, OnOk, OnErr}, cmd_status.specs.{Devices.output_of, Ended.{IsOutOfMemory, Stops}}};
+ghost use Rattle.{cmd_status.specs.Lines.{PassesOn, WritesFront}, cmd_show.specs.{Nodelists.{NodelistAnswers, crc_status}, Written.{AddsLines, BeginsMore}}};
 ghost use Rattle.cmd_print.specs.Listed.{Listed, RestListed, addressed_text};
 
 use cmd_print::{push_crc, push_entry, push_found, push_list_total};

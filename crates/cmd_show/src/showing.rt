@@ -1,8 +1,6 @@
-ghost use Rattle.std.specs.Prelude.{◌≡◌, ◌++◌, ◌<◌, ◌^◌, length, OnErr, OnOk, IfErr};
-ghost use Rattle.cmd_status.specs.{Devices.output_of, Ended.IsOutOfMemory, Limits.show_limits};
-ghost use Rattle.echo_packet.specs.{Reader.IsReading, Reader.reader_given, Reader.reader_header, Reader.reader_limits, Reader.reader_place, Reader.reader_source, Header.IsHeader, Header.header_bytes};
-ghost use Rattle.echo_text.specs.Echo.{HasNoZero};
-ghost use Rattle.cmd_print.specs.{Said.TextShown, Shown.MessageShown, Shown.end_line, Shown.header_lines, Pushed.Pushes};
+ghost use Rattle.{std.specs.Prelude.{◌≡◌, ◌++◌, ◌<◌, ◌^◌, length, OnErr, OnOk, IfErr}, cmd_status.specs.{Devices.output_of, Ended.IsOutOfMemory, Limits.show_limits}};
+ghost use Rattle.echo_packet.specs.{Reader.{IsReading, reader_given, reader_header, reader_limits, reader_place, reader_source}, Header.{IsHeader, header_bytes}};
+ghost use Rattle.{echo_text.specs.Echo.HasNoZero, cmd_print.specs.{Said.TextShown, Shown.{MessageShown, end_line, header_lines}, Pushed.Pushes}};
 ghost use Rattle.cmd_show.specs.Showing.{DecodeAnswers, MessagePasses, PacketAnswers, PacketPasses, ShowAnswers};
 
 use cmd_print::{push_echo, push_end, push_fields, push_header, push_text};

@@ -1,7 +1,5 @@
-ghost use Rattle.std.specs.Prelude.{◌≡◌, [], true, false, IfOk, MatchOption};
-ghost use Rattle.echo_addr.specs.Entries.{tokens};
-ghost use Rattle.echo_links.specs.{LinkLines.is_one_address, LinkLines.links_fault, LinkReading.IsWordOf};
-ghost use Rattle.cmd_show.specs.{FaultyLines.not_one_address, FaultyLines.word_with_control, Before.Tells, Before.links_say};
+ghost use Rattle.{std.specs.Prelude.{◌≡◌, [], true, false, IfOk, MatchOption}, echo_addr.specs.Entries.tokens, cmd_show.specs.Before.{Tells, links_say}};
+ghost use Rattle.{echo_links.specs.{LinkLines.{is_one_address, links_fault}, LinkReading.IsWordOf}, cmd_show.specs.FaultyLines.{not_one_address, word_with_control}};
 
 use echo_addr::{Address, next_token};
 use echo_links::{LinkFault, has_control_byte};

@@ -1,6 +1,5 @@
 //! A station before it is opened: its locks, and the state of its base.
-ghost use Rattle.std.specs.Prelude.{OnOk};
-ghost use Rattle.station.specs.Opening.{AreFree};
+ghost use Rattle.{std.specs.Prelude.OnOk, station.specs.Opening.AreFree};
 
 use crate::found::{FolderState, found_in};
 use cmd_base::{BaseFiles, is_folder};

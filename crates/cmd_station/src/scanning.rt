@@ -1,7 +1,6 @@
 //! `scan` by its words, on the files of the system. The contract of `run_scan` in `station_scan` says what it reads and
 //! writes on any disk.
-ghost use Rattle.disk_io.specs.Disk.{Honestly};
-ghost use Rattle.station.specs.Opening.{AreFree};
+ghost use Rattle.{disk_io.specs.Disk.Honestly, station.specs.Opening.AreFree};
 
 use crate::opened::Opened;
 use crate::place::{Station, find_base, station_locks};

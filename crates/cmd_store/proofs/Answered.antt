@@ -1,12 +1,8 @@
 -- The id in a line that `export` writes, as the value of an answer's field.
 use Rattle.std.proofs.Common.{◌≡◌, ℕ, ◌<◌, List, ◌++◌, Some, None, Bool, true, if◌then◌else◌, length, sym, ap, arith, ◌∙◌, append_assoc, length-append, refl}
-use Rattle.std.{proofs.lemmas.List.{append_cancel_right, reverse-append}, specs.{Prelude.codes, List.prefix_len}}
-use Rattle.hex.specs.Hex.{IsBytes, encode_lower}
-use Rattle.echo_addr.specs.Entries.{is_blank}
-use Rattle.model_steps.specs.ReplyIds.{is_reply_id}
-use Rattle.echo_filed.proofs.Trims.{IsTrim, after_blank, joined_trim}
-use Rattle.echo_export.specs.HeaderText.{id_line}
-use Rattle.echo_mail.{specs.{Exported.{exported_id, id_back, written_id}, Head.field_of}, proofs.TurnedBack.turned_back}
+use Rattle.{std.{proofs.lemmas.List.{append_cancel_right, reverse-append}, specs.{Prelude.codes, List.prefix_len}}, hex.specs.Hex.{IsBytes, encode_lower}}
+use Rattle.{echo_addr.specs.Entries.is_blank, model_steps.specs.ReplyIds.is_reply_id, echo_filed.proofs.Trims.{IsTrim, after_blank, joined_trim}}
+use Rattle.{echo_export.specs.HeaderText.id_line, echo_mail.{specs.{Exported.{exported_id, id_back, written_id}, Head.field_of}, proofs.TurnedBack.turned_back}}
 use Rattle.cmd_store.specs.Letter.{answered_id, true_id}
 
 abbrev line_of : List ℕ → List ℕ

@@ -1,17 +1,14 @@
 -- Commands on a store that holds too much.
-use Rattle.std.{proofs.Common.{List, ℕ, Option, Result, Ok, Err, inl, inr, ⊎_elim, sym, ◌∙◌, arith}, specs.Prelude.IsErrOf}
-use Rattle.base_file.specs.Base.{Base}
-use Rattle.disk_io.{specs.Disk.{Files, Honestly}, proofs.Moments.then_run}
+use Rattle.{std.{proofs.Common.{List, ℕ, Option, Result, Ok, Err, inl, inr, ⊎_elim, sym, ◌∙◌, arith}, specs.Prelude.IsErrOf}, base_file.specs.Base.Base}
+use Rattle.{disk_io.{specs.Disk.{Files, Honestly}, proofs.Moments.then_run}, base_store.specs.declared.store_error.StoreError.{StoreError, TheVariants.TooMany}}
 use Rattle.base_store.specs.Store.{CommitsNothing, GoesOn, IsSameStore, KeepsOthers, KeepsOrCommits, LeavesCommitted, LeavesEither, MayCommit, SameOtherFiles, StoreState}
-use Rattle.base_store.specs.declared.store_error.StoreError.{StoreError, TheVariants.TooMany}
-use Rattle.base_store.proofs.Runs.{commits_none, same_twice, others_twice as kept_twice}
-use Rattle.cmd_status.specs.declared.fault.Fault.{Fault}
-use Rattle.echo_filed.specs.Filed.{Filed}
-use Rattle.echo_toss.specs.{declared.step_error.PostStepError.PostStepError, declared.step_error.StoppedToss.StoppedToss, declared.step_error.TossStepError.TossStepError, declared.tally.Tally.Tally, PacketsIn.stop_in, PacketsIn.toss_answer, Stores.post_answer}
+use Rattle.{base_store.proofs.Runs.{commits_none, same_twice, others_twice as kept_twice}, cmd_status.specs.declared.fault.Fault.Fault}
+use Rattle.{echo_filed.specs.Filed.Filed, echo_toss.specs.declared.step_error.{PostStepError.PostStepError, StoppedToss.StoppedToss}}
+use Rattle.echo_toss.specs.{declared.{step_error.TossStepError.TossStepError, tally.Tally.Tally}, PacketsIn.{stop_in, toss_answer}, Stores.post_answer}
+use Rattle.{echo_toss.proofs.Bounds.{full_now, handed_many, past_after}, cmd_store.specs.Bounded.{IsStoppedFull, IsUncommitted}}
+use Rattle.cmd_store.specs.{Stops.{post_stop, store_answer}, Tossed.{ReportsIn, ReportsStop}}
 use Rattle.echo_toss.specs.declared.step_error.PostStepError.TheVariants as post
 use Rattle.echo_toss.specs.declared.step_error.TossStepError.TheVariants as toss
-use Rattle.echo_toss.proofs.Bounds.{full_now, handed_many, past_after}
-use Rattle.cmd_store.specs.{Bounded.IsStoppedFull, Bounded.IsUncommitted, Stops.post_stop, Stops.store_answer, Tossed.ReportsIn, Tossed.ReportsStop}
 
 pub post_many : (P : Type 0) (A B : Type 0) (why : PostStepError) → (IsErrOf (post_answer {T = A} (Err why)) TooMany → P) → IsErrOf (store_answer {A = B} (Err (post_stop why))) TooMany → P
 post_many P A B (post.Refused refusal) gives is = gives is

@@ -1,12 +1,9 @@
 -- Serials that are looked for.
 use Rattle.std.proofs.Common.{◌≡◌, ℕ, zero, suc, ◌+◌, ◌-◌, ◌%◌, ◌^◌, ◌<◌, ◌⊎◌, inl, inr, true, false, List, Some, None, refl, subst, sym, arith}
-use Rattle.std.proofs.lemmas.Bool.{cases_Bool, cases_order}
-use Rattle.echo_filed.specs.Filed.{Filed}
-use Rattle.echo_links.specs.Links.{LinkFile}
-use Rattle.model_steps.specs.{declared.draft.Draft.Draft, declared.fault.PostFault.PostFault, declared.stamp.Stamp.Stamp, Posting.IsPostFault, Posting.post_refusal}
+use Rattle.{std.proofs.lemmas.Bool.{cases_Bool, cases_order}, echo_filed.specs.Filed.Filed, echo_links.specs.Links.LinkFile}
+use Rattle.model_steps.specs.{declared.{draft.Draft.Draft, fault.PostFault.PostFault, stamp.Stamp.Stamp}, Posting.{IsPostFault, post_refusal}}
+use Rattle.{model_steps.proofs.{FirstRefusals.refusal_first, Posted.allowed}, cmd_store.specs.Serials.{IsFirstFree, is_taken, serial_after}}
 use Rattle.model_steps.specs.declared.fault.PostFault.TheVariants as post
-use Rattle.model_steps.proofs.{FirstRefusals.refusal_first, Posted.allowed}
-use Rattle.cmd_store.specs.Serials.{IsFirstFree, is_taken, serial_after}
 
 abbrev pub AreTaken : LinkFile → List Filed → ℕ → ℕ → Type 0
 AreTaken file base start steps = (k : ℕ) → k < steps → is_taken file base (serial_after start k) ≡ true

@@ -1,14 +1,12 @@
 -- Notes on messages tossed in order.
 use Rattle.std.proofs.Common.{◌≡◌, ℕ, ◌+◌, List, [], ◌∷◌, ◌++◌, length, refl, sym, ap, ◌∙◌, arith, append_assoc, append-nil, length-append, Option}
-use Rattle.std.{proofs.KnownBytes.Consumes-nil, specs.Prelude.option_to_list}
-use Rattle.echo_addr.specs.declared.address.Address.{Address}
-use Rattle.echo_packet.specs.{declared.limits.Limits.Limits, Fault.place_of, Message.Message, Message.message_bytes, Message.messages_bytes}
-use Rattle.echo_text.specs.Echo.{EchoOf, EchoText}
-use Rattle.echo_links.specs.Links.{LinkFile}
-use Rattle.echo_filed.{specs.{Filed.Filed as FiledMessage, Written.echo_of}, proofs.Texts.{says_accepted, says_one}}
-use Rattle.model_steps.specs.{declared.outcome.Outcome.Outcome, SystemState.SystemState, Tossing.toss_outcome, Tossing.tossed, Tossing.tossing}
-use Rattle.echo_toss.{specs.{declared.tally.Tally.Tally, Messages.{HasTaken, IsOpened}, Tallies.tally_of}, proofs.Stops.some_tossed}
-use Rattle.cmd_store.specs.{Notes.area_said, Notes.note_of, Notes.notes_of, Notes.said_unless, Notes.text_said, NotedPacket.NotesSome, NotedPacket.NotesTaken}
+use Rattle.{std.{proofs.KnownBytes.Consumes-nil, specs.Prelude.option_to_list}, echo_addr.specs.declared.address.Address.Address}
+use Rattle.echo_packet.specs.{declared.limits.Limits.Limits, Fault.place_of, Message.{Message, message_bytes, messages_bytes}}
+use Rattle.{echo_text.specs.Echo.{EchoOf, EchoText}, echo_links.specs.Links.LinkFile, echo_filed.specs.{Filed.Filed as FiledMessage, Written.echo_of}}
+use Rattle.{echo_filed.proofs.Texts.{says_accepted, says_one}, model_steps.specs.{declared.outcome.Outcome.Outcome, SystemState.SystemState}}
+use Rattle.{model_steps.specs.Tossing.{toss_outcome, tossed, tossing}, echo_toss.specs.{declared.tally.Tally.Tally, Messages.{HasTaken, IsOpened}}}
+use Rattle.{echo_toss.{specs.Tallies.tally_of, proofs.Stops.some_tossed}, cmd_store.specs.Notes.{area_said, note_of, notes_of, said_unless, text_said}}
+use Rattle.cmd_store.specs.NotedPacket.{NotesSome, NotesTaken}
 
 pub said_area : (text : List ℕ) (e : EchoText) (dropped : ℕ) → EchoOf text e dropped → area_said e ≡ text_said text
 said_area text e dropped h = sym (ap (λ r. said_unless r (echo_of text)) (says_accepted text e dropped h) ∙ ap area_said (says_one text e dropped h))

@@ -1,12 +1,9 @@
 use Rattle.std.{proofs.Common.{◌≡◌, ◌⊎◌, ◌++◌, ℕ, List, [], inl, inr, ⊎_elim, Result, refl, ap, ◌∙◌, arith}, specs.Prelude.{count_by, not, take}}
-use Rattle.base_file.specs.Base.{Base}
-use Rattle.disk_io.{specs.{Disk.{Files, Honestly}, Runs.LeavesOnly}, proofs.Moments.{then_run, weaker_run}}
-use Rattle.echo_filed.specs.Stubs.{is_stub}
-use Rattle.cmd_status.{proofs.Lines.alone, specs.Devices.Output}
-use Rattle.model_steps.specs.Purging.{changed}
+use Rattle.{base_file.specs.Base.Base, disk_io.{specs.{Disk.{Files, Honestly}, Runs.LeavesOnly}, proofs.Moments.{then_run, weaker_run}}}
+use Rattle.{echo_filed.specs.Stubs.is_stub, cmd_status.{proofs.Lines.alone, specs.Devices.Output}, model_steps.specs.Purging.changed}
 use Rattle.base_store.{specs.Store.{KeepsOrCommits, MayCommit, LeavesEither, StoreState, purged}, proofs.Runs.{same_twice, others_twice as kept_twice}}
-use Rattle.cmd_store.specs.{Lines.purged_line, declared.command_error.CommandError.CommandError, Answered.MayMake, Answered.PrintsAll, Answered.RefusesNone, Answered.RepresentsMade, Purged.HoldsOrPurges, Purged.IsPurgedAt, Purged.PurgesOn}
-use Rattle.cmd_store.proofs.Printed.{answered}
+use Rattle.cmd_store.specs.{Lines.purged_line, declared.command_error.CommandError.CommandError, Answered.{MayMake, PrintsAll, RefusesNone, RepresentsMade}}
+use Rattle.cmd_store.{specs.Purged.{HoldsOrPurges, IsPurgedAt, PurgesOn}, proofs.Printed.answered}
 
 pub purge_may : (old new : StoreState) → MayCommit old new → MayMake HoldsOrPurges old new
 purge_may old new may = grind (arith, weaker_run, ⊎_elim)

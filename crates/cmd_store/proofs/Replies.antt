@@ -1,13 +1,10 @@
 use Rattle.std.{proofs.Common.{◌≡◌, ℕ, List, inl, ⊎_elim, Option, Some, None, Result, Ok, Err, refl, arith}, specs.Prelude.{IfErr, slice_get}}
-use Rattle.base_file.specs.Base.{Base}
-use Rattle.disk_io.{specs.Disk.{Files, Honestly}, proofs.Moments.{then_run, weaker_run}}
-use Rattle.echo_filed.specs.Filed.{Filed}
-use Rattle.echo_links.specs.Links.{LinkFile}
-use Rattle.cmd_status.specs.Devices.{Output}
-use Rattle.model_steps.specs.SystemState.{SystemState}
-use Rattle.base_store.specs.Store.{LooksOn, LeavesCommitted, StoreState}
+use Rattle.{base_file.specs.Base.Base, disk_io.{specs.Disk.{Files, Honestly}, proofs.Moments.{then_run, weaker_run}}, echo_filed.specs.Filed.Filed}
+use Rattle.{echo_links.specs.Links.LinkFile, cmd_status.specs.Devices.Output, model_steps.specs.SystemState.SystemState}
+use Rattle.{base_store.specs.Store.{LooksOn, LeavesCommitted, StoreState}, cmd_store.specs.Replied.{FindsOn, PostsAs, Replies, RepliesOn}}
 use Rattle.base_store.proofs.Runs.{goes_on_twice, looks_commit, looks_go_on, looks_then_commits, same_twice, others_twice as kept_twice}
-use Rattle.cmd_store.specs.{declared.drafting.NewMessage.NewMessage, declared.answering.Answer.Answer, declared.answering.ReplyFields.ReplyFields, AnswerWords.IsFound, AnswerWords.IsReply, declared.command_error.CommandError.CommandError, Answered.CommitsNoneWhereMet, Answered.MayMake, Answered.RepresentsMade, Replied.FindsOn, Replied.PostsAs, Replied.Replies, Replied.RepliesOn}
+use Rattle.cmd_store.specs.{declared.{drafting.NewMessage.NewMessage, answering.{Answer.Answer, ReplyFields.ReplyFields}}, AnswerWords.{IsFound, IsReply}}
+use Rattle.cmd_store.specs.{declared.command_error.CommandError.CommandError, Answered.{CommitsNoneWhereMet, MayMake, RepresentsMade}}
 
 pub found_message : (o : Option Filed) (found : ReplyFields) → FindsOn o (Ok found) → (m : Filed) × (o ≡ Some m) × IsFound m found
 found_message None found is = absurd is

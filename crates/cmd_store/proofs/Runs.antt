@@ -1,11 +1,9 @@
 -- A run of `toss` on a store, from its packets to its end.
-use Rattle.std.{proofs.Common.{◌≡◌, ℕ, Bool, List, [], Option, Result, Ok, Err, subst}, specs.Prelude.OnOk}
-use Rattle.base_file.specs.Base.{Base}
-use Rattle.echo_links.specs.Links.{LinkFile}
-use Rattle.echo_packet.specs.declared.limits.Limits.{Limits}
-use Rattle.cmd_status.specs.{declared.fault.Fault.Fault, Devices.Device, Devices.Output}
-use Rattle.base_store.specs.{Store.StoreState, declared.store_error.StoreError.StoreError}
-use Rattle.cmd_store.specs.{Coming.Coming, declared.command_error.CommandError.CommandError, Answered.HasCommitted, Tossed.Tosses, Tossed.TossesFiles, Tossed.TossesOn, Tossed.TossesTo}
+use Rattle.{std.{proofs.Common.{◌≡◌, ℕ, Bool, List, [], Option, Result, Ok, Err, subst}, specs.Prelude.OnOk}, base_file.specs.Base.Base}
+use Rattle.{echo_links.specs.Links.LinkFile, echo_packet.specs.declared.limits.Limits.Limits, cmd_status.specs.declared.fault.Fault.Fault}
+use Rattle.{cmd_status.specs.Devices.{Device, Output}, base_store.specs.{Store.StoreState, declared.store_error.StoreError.StoreError}}
+use Rattle.cmd_store.specs.{Coming.Coming, declared.command_error.CommandError.CommandError, Answered.HasCommitted}
+use Rattle.cmd_store.specs.Tossed.{Tosses, TossesFiles, TossesOn, TossesTo}
 
 pub none_before : {R : Type 0} (honest : Type 0) (noting : Bool) (limits : Limits) (device : R → Device) (file : LinkFile) (base : Base) (files left : List Coming) (none more : List ℕ) (result : Result (Option Fault) StoreError) (new : StoreState) → none ≡ []
     → TossesFiles honest noting limits device file base files left none more result new → TossesFiles honest noting limits device file base files left [] more result new

@@ -1,14 +1,13 @@
 -- Packets that are tossed into a store, as packets that are tossed at a system.
 use Rattle.std.proofs.Common.{◌≡◌, ◌++◌, ℕ, Bool, true, false, List, Option, Some, None, Result, Ok, Err, refl, sym, subst, inl, arith}
-use Rattle.base_file.specs.Base.{Base}
-use Rattle.echo_links.specs.Links.{LinkFile}
-use Rattle.echo_packet.specs.declared.limits.Limits.{Limits}
-use Rattle.cmd_status.specs.{declared.fault.Fault.Fault, declared.fault.Fault.TheVariants.OutOfMemory, declared.fault.Fault.TheVariants.TossMemory, Devices.Device}
-use Rattle.model_steps.specs.SystemState.{SystemState}
+use Rattle.{base_file.specs.Base.Base, echo_links.specs.Links.LinkFile, echo_packet.specs.declared.limits.Limits.Limits}
+use Rattle.{cmd_status.specs.{declared.fault.Fault.{Fault, TheVariants.{OutOfMemory, TossMemory}}, Devices.Device}, model_steps.specs.SystemState.SystemState}
 use Rattle.base_store.specs.{Store.StoreState, declared.store_error.StoreError.StoreError}
-use Rattle.echo_toss.specs.{PacketsIn.HoldsUnlessFailed, PacketsIn.cause_in, PacketsIn.packet_answer, PacketsIn.state_in, PacketsIn.stop_in, declared.fault.TossFault.TossFault, declared.step_error.StoppedToss.StoppedToss, declared.step_error.TossStepError.TossStepError, declared.tally.Tally.Tally, PacketSteps.CountsToss, PacketSteps.PacketStep}
+use Rattle.echo_toss.specs.{PacketsIn.{HoldsUnlessFailed, cause_in, packet_answer, state_in, stop_in}, declared.step_error.StoppedToss.StoppedToss}
+use Rattle.echo_toss.specs.{declared.{step_error.TossStepError.TossStepError, tally.Tally.Tally}, PacketSteps.{CountsToss, PacketStep, TossFault}}
+use Rattle.cmd_store.specs.{Lines.tally_line, TossedPacket.{ReportsPacket, TossRun, TossesPacketBy, fault_of}, NotedPacket.NotesPacket}
+use Rattle.cmd_store.specs.Tossed.{ReportsIn, ReportsStop, TossesNext, run_at}
 use Rattle.echo_toss.specs.declared.step_error.TossStepError.TheVariants as toss
-use Rattle.cmd_store.specs.{Lines.tally_line, TossedPacket.ReportsPacket, TossedPacket.TossRun, TossedPacket.TossesPacketBy, TossedPacket.fault_of, NotedPacket.NotesPacket, Tossed.ReportsIn, Tossed.ReportsStop, Tossed.TossesNext, Tossed.run_at}
 
 -- the notes on a packet, or no notes if its messages are not noted
 abbrev pub NotesIf : Bool → Limits → SystemState → Option (List ℕ) → Result Tally TossFault → SystemState → List ℕ → List ℕ → Type 0

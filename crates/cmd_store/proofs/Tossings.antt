@@ -1,7 +1,6 @@
 -- A run of `toss` over packet files, one file more at its front.
-use Rattle.std.proofs.Common.{List, [], ◌∷◌, Option, Some, None, Ok, Err, refl, subst, inl, inr}
-use Rattle.cmd_status.specs.{Devices.Device, declared.fault.Fault.Fault}
-use Rattle.cmd_store.specs.{Coming.Coming, Coming.OpensNext, TossRuns.TossesEachBy, TossedPacket.TossRun}
+use Rattle.{std.proofs.Common.{List, [], ◌∷◌, Option, Some, None, Ok, Err, refl, subst, inl, inr}, cmd_status.specs.Devices.Device}
+use Rattle.{cmd_status.specs.declared.fault.Fault.Fault, cmd_store.specs.{Coming.{Coming, OpensNext}, TossRuns.TossesEachBy, TossedPacket.TossRun}}
 
 pub each_ended : {R : Type 0} (honest now : Type 0) (Tosses : TossRun → Device → Device → Option Fault → TossRun → Type 0) (device : R → Device) (files left : List Coming) (run : TossRun) → OpensNext now (λ r. (device r).contents) files left None
     → TossesEachBy honest Tosses device files run None left run

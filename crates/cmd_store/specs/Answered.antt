@@ -1,10 +1,8 @@
 -- The end of a command on a store: its output, the base in the store, and the files after a crash.
-use Rattle.std.specs.Prelude.{◌≡◌, ℕ, ◌⊎◌, Bool, true, false, List, Result, Ok, Err}
-use Rattle.base_file.specs.Base.{Base}
-use Rattle.disk_io.specs.{Disk.Files, Disk.Honestly, Runs.LeavesOnly}
-use Rattle.cmd_status.specs.{declared.fault.Fault.Fault, Devices.Output, Ended.Answers, Ended.IsDone, Ended.IsOutOfMemory}
+use Rattle.{std.specs.Prelude.{◌≡◌, ℕ, ◌⊎◌, Bool, true, false, List, Result, Ok, Err}, base_file.specs.Base.Base, disk_io.specs.Disk.{Files, Honestly}}
+use Rattle.{disk_io.specs.Runs.LeavesOnly, cmd_status.specs.{declared.fault.Fault.Fault, Devices.Output, Ended.{Answers, IsDone, IsOutOfMemory}}}
 use Rattle.base_store.specs.Store.{CommitsNothing, GoesOn, IsSameStore, KeepsOthers, KeepsOrCommits, LooksOn, MayCommit, SameOtherFiles, StoreState}
-use Rattle.cmd_store.specs.declared.command_error.CommandError.{CommandError, TheVariants.Met, TheVariants.Store}
+use Rattle.cmd_store.specs.declared.command_error.CommandError.{CommandError, TheVariants.{Met, Store}}
 
 -- The answer of a command that prints only after computing all its lines. If the store failed, it printed no line.
 abbrev pub AnswersOn : {A : Type 0} → (List ℕ → A → Type 0) → (Fault → Type 0) → Output → Output → Result A CommandError → Type 0

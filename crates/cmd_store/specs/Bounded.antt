@@ -1,13 +1,9 @@
 -- A command on a store that holds too much.
-use Rattle.std.specs.Prelude.{◌≡◌, ℕ, Bool, true, false, List}
-use Rattle.base_file.specs.Base.{Base}
-use Rattle.disk_io.specs.Disk.{Honestly}
-use Rattle.base_store.specs.Store.{CommitsNothing, MayCommit, StoreState}
-use Rattle.echo_filed.specs.Filed.{Filed}
-use Rattle.echo_links.specs.Links.{LinkFile}
-use Rattle.echo_toss.specs.Bounds.{IsPastBound}
-use Rattle.model_steps.specs.{declared.draft.Draft.Draft, Posting.posted}
-use Rattle.cmd_store.specs.{declared.drafting.NewMessage.NewMessage, declared.answering.Answer.Answer, Drafts.draft_given, declared.letter.Letter.Letter, declared.mailed.MailWords.MailWords, Mailed.IsPosting}
+use Rattle.{std.specs.Prelude.{◌≡◌, ℕ, Bool, true, false, List}, base_file.specs.Base.Base, disk_io.specs.Disk.Honestly}
+use Rattle.{base_store.specs.Store.{CommitsNothing, MayCommit, StoreState}, echo_filed.specs.Filed.Filed, echo_links.specs.Links.LinkFile}
+use Rattle.{echo_toss.specs.Bounds.IsPastBound, model_steps.specs.{declared.draft.Draft.Draft, Posting.posted}}
+use Rattle.cmd_store.specs.{declared.{drafting.NewMessage.NewMessage, answering.Answer.Answer, letter.Letter.Letter}, Drafts.draft_given}
+use Rattle.cmd_store.specs.{declared.mailed.MailWords.MailWords, Mailed.IsPosting}
 
 -- The store was full, so a commit did nothing.
 pub record IsUncommitted (old new : StoreState) : Type 0 where

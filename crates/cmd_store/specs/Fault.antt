@@ -1,8 +1,7 @@
 -- Why a mail is not posted, and the exit status for that.
-use Rattle.echo_mail.specs.declared.fault.MailFault.{MailFault}
+use Rattle.{echo_mail.specs.declared.fault.MailFault.MailFault, cmd_store.specs.declared.fault.LetterFault.{LetterFault, TheVariants.{Mail, Memory}}}
+use Rattle.cmd_status.specs.declared.status.Status.{Status, TheVariants.{Device, Refused}}
 use Rattle.echo_mail.specs.declared.fault.MailFault.TheVariants as mail
-use Rattle.cmd_store.specs.declared.fault.LetterFault.{LetterFault, TheVariants.Mail, TheVariants.Memory}
-use Rattle.cmd_status.specs.declared.status.Status.{Status, TheVariants.Device, TheVariants.Refused}
 
 abbrev pub letter_fault : MailFault → LetterFault
 letter_fault mail.Memory = Memory

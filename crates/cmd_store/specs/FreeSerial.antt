@@ -1,14 +1,10 @@
 -- A posting on a store, with the serial in its words or the first free one from there on.
-use Rattle.std.specs.Prelude.{◌≡◌, ℕ, Bool, true, false, List, Some, None, Result, Ok, Err}
-use Rattle.base_file.specs.Base.{Base}
-use Rattle.echo_filed.specs.Filed.{Filed}
-use Rattle.echo_links.specs.Links.{LinkFile}
-use Rattle.cmd_status.specs.Devices.{Output}
-use Rattle.model_steps.specs.{declared.draft.Draft.Draft, Posting.post_refusal, Posting.posted, SystemState.SystemState}
-use Rattle.base_store.specs.Store.{StoreState, with_message}
-use Rattle.echo_toss.specs.declared.step_error.PostStepError.{PostStepError}
+use Rattle.{std.specs.Prelude.{◌≡◌, ℕ, Bool, true, false, List, Some, None, Result, Ok, Err}, base_file.specs.Base.Base, echo_filed.specs.Filed.Filed}
+use Rattle.{echo_links.specs.Links.LinkFile, cmd_status.specs.Devices.Output, model_steps.specs.{declared.draft.Draft.Draft, Posting.{post_refusal, posted}}}
+use Rattle.{model_steps.specs.SystemState.SystemState, base_store.specs.Store.{StoreState, with_message}}
+use Rattle.{echo_toss.specs.declared.step_error.PostStepError.PostStepError, cmd_store.specs.declared.drafting.NewMessage.NewMessage}
+use Rattle.cmd_store.specs.{Serials.{IsFirstFree, with_serial}, declared.command_error.CommandError.CommandError, Posted.{Posts, PostsOn}}
 use Rattle.echo_toss.specs.declared.step_error.PostStepError.TheVariants as post
-use Rattle.cmd_store.specs.{declared.drafting.NewMessage.NewMessage, Serials.IsFirstFree, Serials.with_serial, declared.command_error.CommandError.CommandError, Posted.Posts, Posted.PostsOn}
 
 -- The serial of a posting: the one in its words, or the first free one from there on.
 abbrev pub IsSerial : Bool → LinkFile → List Filed → ℕ → ℕ → Type 0

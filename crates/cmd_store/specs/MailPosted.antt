@@ -1,11 +1,8 @@
 -- Posting a mail on a store.
-use Rattle.std.specs.Prelude.{◌≡◌, List, ℕ, Result, Ok, Err}
-use Rattle.base_file.specs.Base.{Base}
-use Rattle.echo_links.specs.Links.{LinkFile}
-use Rattle.echo_mail.specs.Mail.{mail_in}
-use Rattle.cmd_status.specs.Devices.{Output}
-use Rattle.model_steps.specs.SystemState.{SystemState}
-use Rattle.cmd_store.specs.{declared.drafting.NewMessage.NewMessage, FreeSerial.PostsAs, FreeSerial.PostsAsOn, declared.command_error.CommandError.CommandError, declared.fault.LetterFault.LetterFault, declared.letter.Letter.Letter, declared.mailed.MailWords.MailWords, declared.mail_posting.PostMail.PostMail, Letter.LetterAnswers, Mailed.IsPosting}
+use Rattle.{std.specs.Prelude.{◌≡◌, List, ℕ, Result, Ok, Err}, base_file.specs.Base.Base, echo_links.specs.Links.LinkFile, echo_mail.specs.Mail.mail_in}
+use Rattle.{cmd_status.specs.Devices.Output, model_steps.specs.SystemState.SystemState, cmd_store.specs.declared.drafting.NewMessage.NewMessage}
+use Rattle.cmd_store.specs.{FreeSerial.{PostsAs, PostsAsOn}, declared.{command_error.CommandError.CommandError, fault.LetterFault.LetterFault}}
+use Rattle.cmd_store.specs.{declared.{letter.Letter.Letter, mailed.MailWords.MailWords, mail_posting.PostMail.PostMail}, Letter.LetterAnswers, Mailed.IsPosting}
 
 -- The letter of the mail with its request, or the fault of the mail.
 abbrev pub ReadsMail : MailWords → List ℕ → Result PostMail LetterFault → Type 0

@@ -1,13 +1,9 @@
 -- The notes on messages that are not filed.
 use Rattle.std.specs.Prelude.{ℕ, ◌+◌, List, [], ◌∷◌, ◌++◌, length, codes, decimal, option_to_list, Option, Some, None}
-use Rattle.echo_addr.specs.declared.address.Address.{Address}
-use Rattle.echo_packet.specs.{Message.Message, Message.message_bytes, Fault.place_of}
-use Rattle.echo_text.specs.{declared.fault.TextFault.TextFault, Echo.EchoText, Echo.msgid_of, Refusal.text_refusal}
-use Rattle.echo_charset.specs.Escaped.{escaped_line}
-use Rattle.echo_links.specs.Links.{LinkFile}
-use Rattle.echo_filed.specs.{Filed.Filed as FiledMessage, Written.echo_of}
-use Rattle.model_steps.specs.declared.outcome.Outcome.TheVariants.{BadTag, Filed, Known, NoArea, NotEcho, NotLinked}
-use Rattle.model_steps.specs.{declared.outcome.Outcome.Outcome, Tossing.toss_outcome, Tossing.tossing}
+use Rattle.{echo_addr.specs.declared.address.Address.Address, echo_packet.specs.{Message.{Message, message_bytes}, Fault.place_of}}
+use Rattle.{echo_text.specs.{declared.fault.TextFault.TextFault, Echo.{EchoText, msgid_of}, Refusal.text_refusal}, echo_charset.specs.Escaped.escaped_line}
+use Rattle.{echo_links.specs.Links.LinkFile, echo_filed.specs.{Filed.Filed as FiledMessage, Written.echo_of}, model_steps.specs.Tossing.{toss_outcome, tossing}}
+use Rattle.model_steps.specs.declared.outcome.Outcome.{TheVariants.{BadTag, Filed, Known, NoArea, NotEcho, NotLinked}, Outcome}
 
 abbrev pub outcome_word : Outcome → List ℕ
 outcome_word NotEcho = codes "notecho"

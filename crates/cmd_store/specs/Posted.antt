@@ -1,13 +1,9 @@
 -- The output of `post`, and the base that it makes of the one in a store.
-use Rattle.std.specs.Prelude.{◌≡◌, ℕ, List, Some, None, Result}
-use Rattle.base_file.specs.Base.{Base}
-use Rattle.echo_links.specs.Links.{LinkFile}
-use Rattle.cmd_status.specs.{declared.fault.Fault.Fault, declared.fault.Fault.TheVariants.Post, Devices.Output}
-use Rattle.model_steps.specs.{declared.fault.PostFault.PostFault, Posting.posted, SystemState.SystemState}
-use Rattle.base_store.specs.Store.{with_message}
-use Rattle.echo_text.specs.Ids.{id_of}
-use Rattle.echo_toss.specs.PacketsIn.{state_in}
-use Rattle.cmd_store.specs.{declared.drafting.NewMessage.NewMessage, Lines.posted_line, Drafts.draft_given, Drafts.refusal_given, declared.command_error.CommandError.CommandError, Answered.AnswersAndCommits}
+use Rattle.{std.specs.Prelude.{◌≡◌, ℕ, List, Some, None, Result}, base_file.specs.Base.Base, echo_links.specs.Links.LinkFile}
+use Rattle.{cmd_status.specs.{declared.fault.Fault.{Fault, TheVariants.Post}, Devices.Output}, model_steps.specs.declared.fault.PostFault.PostFault}
+use Rattle.{model_steps.specs.{Posting.posted, SystemState.SystemState}, base_store.specs.Store.with_message, echo_text.specs.Ids.id_of}
+use Rattle.{echo_toss.specs.PacketsIn.state_in, cmd_store.specs.{declared.drafting.NewMessage.NewMessage, Lines.posted_line}}
+use Rattle.cmd_store.specs.{Drafts.{draft_given, refusal_given}, declared.command_error.CommandError.CommandError, Answered.AnswersAndCommits}
 
 -- A posting without a refusal at a system, with the line of its tag and id.
 pub record IsPostedAt {A : Type 0} (words : NewMessage) (system : SystemState) (body lines : List ℕ) (done : A) : Type 0 where

@@ -1,10 +1,7 @@
 -- The output of `purge`, and the base that it makes of the one in a store.
-use Rattle.std.specs.Prelude.{◌≡◌, ℕ, ◌⊎◌, List, Result}
-use Rattle.base_file.specs.Base.{Base}
-use Rattle.cmd_status.specs.Devices.{Output}
-use Rattle.model_steps.specs.Purging.{changed}
-use Rattle.base_store.specs.Store.{purged}
-use Rattle.cmd_store.specs.{Lines.purged_line, declared.command_error.CommandError.CommandError, Answered.AnswersAndCommits, Answered.RefusesNone}
+use Rattle.{std.specs.Prelude.{◌≡◌, ℕ, ◌⊎◌, List, Result}, base_file.specs.Base.Base, cmd_status.specs.Devices.Output, model_steps.specs.Purging.changed}
+use Rattle.{base_store.specs.Store.purged, cmd_store.specs.{Lines.purged_line, declared.command_error.CommandError.CommandError}}
+use Rattle.cmd_store.specs.Answered.{AnswersAndCommits, RefusesNone}
 
 -- The line of a purge, with the number of messages that it changes.
 abbrev pub IsPurgedAt : {A : Type 0} → Base → List ℕ → A → Type 0

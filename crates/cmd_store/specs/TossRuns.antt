@@ -1,10 +1,7 @@
 -- The effect of `toss` on its packet files, and its output.
-use Rattle.std.specs.{Prelude.{◌≡◌, ◌⊎◌, List, [], ◌∷◌, Option, Some, None, Ok, Err}, Io.KnownBytes.Appends}
-use Rattle.disk_io.specs.Device.{Failed}
-use Rattle.echo_packet.specs.declared.limits.Limits.{Limits}
-use Rattle.cmd_status.specs.{Devices.Device, Devices.Output, declared.fault.Fault.Fault, Ended.PassesAll, Lines.WritesFront}
-use Rattle.model_steps.specs.SystemState.{SystemState}
-use Rattle.cmd_store.specs.{Coming.Coming, Coming.Opens, TossedPacket.TossRun}
+use Rattle.{std.specs.{Prelude.{◌≡◌, ◌⊎◌, List, [], ◌∷◌, Option, Some, None, Ok, Err}, Io.KnownBytes.Appends}, disk_io.specs.Device.Failed}
+use Rattle.{echo_packet.specs.declared.limits.Limits.Limits, cmd_status.specs.{Devices.{Device, Output}, declared.fault.Fault.Fault, Ended.PassesAll}}
+use Rattle.{cmd_status.specs.Lines.WritesFront, model_steps.specs.SystemState.SystemState, cmd_store.specs.{Coming.{Coming, Opens}, TossedPacket.TossRun}}
 
 -- The run opened a file and tossed the packet at its front in this way. If the answers are honest, the reader fits the file.
 pub record TossesOpened {R : Type 0} (honest : Type 0) (Tosses : TossRun → Device → Device → Option Fault → TossRun → Type 0) (device : R → Device) (file : Coming) (old : TossRun) (stopped : Option Fault) (new : TossRun) : Type 0 where

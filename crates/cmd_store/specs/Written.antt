@@ -1,8 +1,7 @@
 -- The text of a mail, in a charset.
 use Rattle.std.specs.{Prelude.{ℕ, ◌≡◌, ◌⊎◌, List, Option, Some, None, Result, Ok, Err}, Option.{option_map, option_or}}
-use Rattle.echo_charset.specs.{declared.charset.Charset.Charset, Charset.decoded_text, Encoding.Lacks}
-use Rattle.echo_mail.specs.{Encoded.decoded_words, Mailbox.person_name}
-use Rattle.cmd_store.specs.declared.fault.LetterFault.{LetterFault, TheVariants.Memory, TheVariants.NotInCharset}
+use Rattle.{echo_charset.specs.{declared.charset.Charset.Charset, Charset.decoded_text, Encoding.Lacks}, echo_mail.specs.Encoded.decoded_words}
+use Rattle.{echo_mail.specs.Mailbox.person_name, cmd_store.specs.declared.fault.LetterFault.{LetterFault, TheVariants.{Memory, NotInCharset}}}
 
 -- The answer is this fault, or out of memory.
 abbrev pub IsRefused : {A : Type 0} → LetterFault → Result A LetterFault → Type 0

@@ -1,5 +1,4 @@
-ghost use Rattle.std.specs.Prelude.{◌≡◌};
-ghost use Rattle.cmd_store.specs.{declared.fault.LetterFault.TheVariants.Memory, Fault.letter_fault, Fault.letter_status};
+ghost use Rattle.{std.specs.Prelude.◌≡◌, cmd_store.specs.{declared.fault.LetterFault.TheVariants.Memory, Fault.{letter_fault, letter_status}}};
 
 use cmd_status::Status;
 use disk_io::Sink;

@@ -1,8 +1,7 @@
 //! The end of a command: its lines are printed, and what the store holds is committed.
-ghost use Rattle.std.specs.Prelude.{IfErr, IsErrOf, OnOk};
-ghost use Rattle.cmd_status.specs.Devices.{output_of};
-ghost use Rattle.base_store.specs.{Store.Commits, Store.HasStoreCause, Store.MayCommit, declared.store_error.StoreError.TheVariants.TooMany};
-ghost use Rattle.cmd_store.specs.{Answered.LooksWhereMet, Answered.PrintsAll, Bounded.IsUncommitted, Stops.IsOfStore, Stops.store_answer};
+ghost use Rattle.{std.specs.Prelude.{IfErr, IsErrOf, OnOk}, cmd_status.specs.Devices.output_of, base_store.specs.Store.{Commits, HasStoreCause, MayCommit}};
+ghost use Rattle.{base_store.specs.declared.store_error.StoreError.TheVariants.TooMany, cmd_store.specs.{Answered.{LooksWhereMet, PrintsAll}, Bounded.IsUncommitted}};
+ghost use Rattle.cmd_store.specs.Stops.{IsOfStore, store_answer};
 
 use crate::command_error::CommandError;
 use base_store::Store;

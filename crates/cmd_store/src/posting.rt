@@ -1,11 +1,7 @@
-ghost use Rattle.std.specs.Prelude.{false, IfErr, IsErrOf, OnOk};
-ghost use Rattle.disk_io.specs.Disk.{Honestly};
-ghost use Rattle.base_file.specs.Base.{Base};
-ghost use Rattle.cmd_status.specs.Devices.{output_of};
-ghost use Rattle.base_store.specs.{Store.Commits, Store.HasStoreCause, Store.MayCommit, declared.store_error.StoreError.TheVariants.TooMany};
-ghost use Rattle.echo_text.specs.Ids.{id_of};
-ghost use Rattle.echo_toss.specs.PacketsIn.{state_in};
-ghost use Rattle.cmd_store.specs.{Answered.CommitsNoneWhereMet, Answered.HasCommitted, Answered.LooksWhereMet, Answered.MayMake, Answered.PrintsAll, Lines.posted_line, Bounded.AddsPosted, Bounded.IsStoppedFull, Bounded.IsUncommitted, FreeSerial.PostsAs, FreeSerial.PostsAsOn, Stops.store_answer};
+ghost use Rattle.{std.specs.Prelude.{false, IfErr, IsErrOf, OnOk}, disk_io.specs.Disk.Honestly, base_file.specs.Base.Base, cmd_status.specs.Devices.output_of};
+ghost use Rattle.{base_store.specs.{Store.{Commits, HasStoreCause, MayCommit}, declared.store_error.StoreError.TheVariants.TooMany}, echo_text.specs.Ids.id_of};
+ghost use Rattle.{echo_toss.specs.PacketsIn.state_in, cmd_store.specs.Answered.{CommitsNoneWhereMet, HasCommitted, LooksWhereMet, MayMake, PrintsAll}};
+ghost use Rattle.cmd_store.specs.{Lines.posted_line, Bounded.{AddsPosted, IsStoppedFull, IsUncommitted}, FreeSerial.{PostsAs, PostsAsOn}, Stops.store_answer};
 
 use crate::command::StoreCommand;
 use crate::command_error::CommandError;
@@ -76,6 +72,7 @@ pub(crate) fn post_as<'a, T: Store, W: Sink>(
     leave_posted(alloc, words.tag, serial, links, store, out)
 }
 
+#[tactic(auto, using(std::proofs::lemmas::Result::err_from_is_err_and, cmd_status::proofs::Lines::alone, base_store::proofs::Runs::no_look, crate::proofs::Commits::looks_may, crate::proofs::Printed::prints_same))]
 fn leave_posted<'a, T: Store, W: Sink>(
     alloc: Global,
     tag: &[u8],

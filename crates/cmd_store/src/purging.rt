@@ -1,11 +1,8 @@
 //! The command `purge` on a store.
-ghost use Rattle.std.specs.Prelude.{true, IfErr, IsErrOf, OnOk};
-ghost use Rattle.disk_io.specs.Disk.{Honestly};
-ghost use Rattle.base_file.specs.Base.{Base};
-ghost use Rattle.cmd_status.specs.Devices.{output_of};
+ghost use Rattle.{std.specs.Prelude.{true, IfErr, IsErrOf, OnOk}, disk_io.specs.Disk.Honestly, base_file.specs.Base.Base, cmd_status.specs.Devices.output_of};
 ghost use Rattle.base_store.specs.{Store.HasStoreCause, declared.store_error.StoreError.TheVariants.TooMany};
-ghost use Rattle.cmd_store.specs.{Answered.HasCommitted, Answered.MayCommitWhereMet, Answered.MayMake, Bounded.IsStoppedHeld, Purged.HoldsOrPurges, Purged.Purges, Purged.PurgesOn, Stops.store_answer};
-ghost use Rattle.echo_toss.specs.Bounds.{AddsNone};
+ghost use Rattle.cmd_store.specs.{Answered.{HasCommitted, MayCommitWhereMet, MayMake}, Bounded.IsStoppedHeld, Purged.{HoldsOrPurges, Purges, PurgesOn}};
+ghost use Rattle.{cmd_store.specs.Stops.store_answer, echo_toss.specs.Bounds.AddsNone};
 
 use crate::command::StoreCommand;
 use crate::command_error::CommandError;
@@ -44,6 +41,7 @@ impl<'a> StoreCommand<'a> for Purge {
     }
 }
 
+#[tactic(auto, using(std::proofs::lemmas::Result::err_from_is_err_and, base_store::proofs::Runs::no_look, echo_toss::proofs::Bounds::handed_many, crate::proofs::Commits::caused_after, crate::proofs::Commits::committed_where, crate::proofs::Commits::looks_may, crate::proofs::Commits::ready_where, crate::proofs::Bounded::may_then_nothing, crate::proofs::Purges::purge_may, crate::proofs::Purges::purge_printed))]
 fn purge_on<'a, T: PurgedStore, W: Sink>(
     alloc: Global,
     store: &mut T,

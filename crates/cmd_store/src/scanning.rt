@@ -1,6 +1,5 @@
-ghost use Rattle.std.specs.{Prelude.◌≡◌, Prelude.Ok, List.flat_map};
-ghost use Rattle.cmd_status.specs.Devices.{output_of};
-ghost use Rattle.cmd_store.specs.{PacketLines.counted_line, Answered.AnswersOn, Answered.AreLines, Answered.RefusesNone, Stops.store_answer};
+ghost use Rattle.{std.specs.{Prelude.{◌≡◌, Ok}, List.flat_map}, cmd_status.specs.Devices.output_of, cmd_store.specs.PacketLines.counted_line};
+ghost use Rattle.cmd_store.specs.{Answered.{AnswersOn, AreLines, RefusesNone}, Stops.store_answer};
 
 use crate::command_error::CommandError;
 use crate::packet_lines::push_counted;
@@ -10,6 +9,7 @@ use echo_toss::CountedPacket;
 use std::alloc::Global;
 
 /// Prints a line for each counted packet.
+#[tactic(auto, using(std::proofs::lemmas::Result::err_from_is_err_and, cmd_status::proofs::Lines::alone))]
 pub fn print_counted<'a, W: Sink>(
     alloc: Global,
     packets: &[CountedPacket],

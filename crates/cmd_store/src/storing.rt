@@ -1,13 +1,11 @@
 //! Tosses a packet into a store, and notes the messages that were not filed.
-ghost use Rattle.std.specs.Prelude.{◌≡◌, ◌≢◌, ◌++◌, IfErr, IsErr, IsErrOf, OnErr, OnOk};
-ghost use Rattle.base_file.specs.Base.{Base};
-ghost use Rattle.disk_io.specs.Disk.{Honestly};
-ghost use Rattle.base_store.specs.{Store.CommitsNothing, Store.HasStoreCause, declared.store_error.StoreError.TheVariants.TooMany};
-ghost use Rattle.model_steps.specs.declared.outcome.Outcome.TheVariants.{Filed};
+ghost use Rattle.{std.specs.Prelude.{◌≡◌, ◌≢◌, ◌++◌, IfErr, IsErr, IsErrOf, OnErr, OnOk}, base_file.specs.Base.Base, disk_io.specs.Disk.Honestly};
+ghost use Rattle.base_store.specs.{Store.{CommitsNothing, HasStoreCause}, declared.store_error.StoreError.TheVariants.TooMany};
+ghost use Rattle.{model_steps.specs.declared.outcome.Outcome.TheVariants.Filed, cmd_store.specs.NotedIn.{CanBegin, NotesMessagesIn, NotesPacketIn}};
+ghost use Rattle.echo_toss.specs.{PacketsIn.{GoesOnUnlessFailed, messages_answer, packet_answer, stop_in, toss_answer}, Bounds.{AddsReceived, IsPastBound}};
+ghost use Rattle.{echo_toss.specs.{Messages.CountsStop, PacketSteps.CountsToss}, cmd_store.specs.{Lines.HasTallyRoom, Notes.note_of}};
 ghost use Rattle.echo_toss.specs.declared.fault.TossCause.TheVariants as cause;
 ghost use Rattle.echo_toss.specs.declared.step_error.TossStepError.TheVariants as toss;
-ghost use Rattle.echo_toss.specs.{PacketsIn.GoesOnUnlessFailed, PacketsIn.messages_answer, PacketsIn.packet_answer, PacketsIn.stop_in, PacketsIn.toss_answer, Bounds.AddsReceived, Bounds.IsPastBound, Messages.CountsStop, PacketSteps.CountsToss};
-ghost use Rattle.cmd_store.specs.{Lines.HasTallyRoom, Notes.note_of, NotedIn.CanBegin, NotedIn.NotesMessagesIn, NotedIn.NotesPacketIn};
 
 use crate::lines::MOST_TALLY;
 use crate::note::note_line;

@@ -1,9 +1,7 @@
-ghost use Rattle.std.specs.Prelude.{◌≡◌, false, IfErr, IsErrOf, OnOk};
-ghost use Rattle.disk_io.specs.Disk.{Honestly};
-ghost use Rattle.base_file.specs.Base.{Base};
-ghost use Rattle.cmd_status.specs.Devices.{device_of, output_of};
-ghost use Rattle.base_store.specs.Store.{CommitsNothing, GoesOn, HasStoreCause};
-ghost use Rattle.cmd_store.specs.{Tossed.PrintsRun, Tossed.ReportsIn, Tossed.Tosses, Tossed.TossesFiles, Tossed.TossesIn, Tossed.TossesNext, Tossed.TossesOn, Tossed.TossesTo, Lines.HasTallyRoom, TossedPacket.TossRun, Answered.CommitsNoneWhereMet, Answered.MayMake, Bounded.IsStoppedFull, Stops.store_answer};
+ghost use Rattle.{std.specs.Prelude.{◌≡◌, false, IfErr, IsErrOf, OnOk}, disk_io.specs.Disk.Honestly, base_file.specs.Base.Base};
+ghost use Rattle.{cmd_status.specs.Devices.{device_of, output_of}, base_store.specs.Store.{CommitsNothing, GoesOn, HasStoreCause}};
+ghost use Rattle.cmd_store.specs.{Tossed.{PrintsRun, ReportsIn, Tosses, TossesFiles, TossesIn, TossesNext, TossesOn, TossesTo}, Lines.HasTallyRoom};
+ghost use Rattle.cmd_store.specs.{TossedPacket.TossRun, Answered.{CommitsNoneWhereMet, MayMake}, Bounded.IsStoppedFull, Stops.store_answer};
 ghost use Rattle.echo_toss.specs.Bounds.{AddsReceived, IsPastBound};
 
 use crate::coming::PacketFiles;

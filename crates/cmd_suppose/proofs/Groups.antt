@@ -1,27 +1,15 @@
 -- The parts of an area, as groups of carriers with one label.
 use Rattle.std.proofs.Common.{◌≡◌, ◌<◌, ◌+◌, ◌==◌, ◌↔◌, inl, inr, ℕ, Bool, true, IsTrue, if◌then◌else◌, List, [], ◌∷◌, ◌++◌, length, filter, take, get_or, refl, sym, ap, subst, ◌∙◌, arith}
-use Rattle.std.specs.{Prelude.Contains, List.{remove, Sorted.IsStrictlySortedBy}, Ordering.is_lt}
 use Rattle.std.proofs.lemmas.Bool.{and_from, and_parts, cases_Bool, cases_lt, eq-eqb, eqb-true}
 use Rattle.std.proofs.lemmas.List.{get_or_append_left, get_or_default, get_or_push, length-append, take_more}
-use Rattle.std.proofs.lemmas.List.Elements.{Contains-append_left, Contains-get_or, Contains-push, Contains-push_cases}
-use Rattle.echo_addr.specs.declared.address.Address.{Address}
-use Rattle.echo_links.specs.{LinkLines.no_address, Links.LinkFile}
-use Rattle.echo_filed.specs.Sets.{address_before}
-use Rattle.model_graph.{specs.Walk.{IsAt, Reaches, Walk}, proofs.Members.{Among-from_Contains, Contains-from_Among, Reaches-trans}}
-use Rattle.model_run.{proofs.{Lists.{Among-filter_from, Among-filter_to}, Places.lister-carries}, specs.Tidy.{carries, lists}}
-use Rattle.echo_net.specs.{declared.link.Link.Link, Drawn.back, Drawn.has_link, Faults.AreInOrder, Nets.link, Rows.system_at}
-use Rattle.cmd_suppose.specs.Parts.{AreBothWays, AreGrouped, AreLabels, AreOthers, ArePaired, AreParts, AreSettled, IsGroup, IsLargestAt, JoinsEnds, JoinsLabels, linked_both, relabeled}
-use Rattle.echo_net.proofs.{Drawings.links_held, Owned.before_back, Owned.in_order_from_sorted}
+use Rattle.std.{proofs.lemmas.List.Elements.{Contains-append_left, Contains-get_or, Contains-push, Contains-push_cases}, specs.{Prelude.Contains, List.remove}}
+use Rattle.{std.specs.{List.Sorted.IsStrictlySortedBy, Ordering.is_lt}, echo_addr.specs.declared.address.Address.Address, echo_links.specs.LinkLines.no_address}
+use Rattle.{echo_links.specs.Links.LinkFile, echo_filed.specs.Sets.address_before, model_graph.specs.Walk.{IsAt, Reaches, Walk}}
+use Rattle.{model_graph.proofs.Members.{Among-from_Contains, Contains-from_Among, Reaches-trans}, model_run.proofs.Lists.{Among-filter_from, Among-filter_to}}
+use Rattle.{model_run.{proofs.Places.lister-carries, specs.Tidy.{carries, lists}}, echo_net.specs.{declared.link.Link.Link, Drawn.{back, has_link}}}
+use Rattle.echo_net.{specs.{Faults.AreInOrder, Nets.link, Rows.system_at}, proofs.{Drawings.links_held, Owned.{before_back, in_order_from_sorted}}}
 use Rattle.echo_net.proofs.Orders.{address_order, address_total, at_place, before_is, earlier_less, not_before_itself, one_place}
-
--- parts without the first of the largest
-pub others_left : (parts others : List (List Address)) (k : ℕ) → (0 < length parts → IsLargestAt parts k) → k < length parts → others ≡ remove parts k → AreOthers parts others
-others_left [] others k largest within is = absurd (omega arith)
-others_left (part ∷ parts) others k largest within is = (k, largest (omega arith), is)
-
-pub no_others : (parts : List (List Address)) (k : ℕ) → (0 < length parts → IsLargestAt parts k) → (k < length parts → ⊥) → AreOthers parts parts
-no_others [] k largest past = refl
-no_others (part ∷ parts) k largest past = absurd (past (largest (omega arith)).within)
+use Rattle.cmd_suppose.specs.Parts.{AreBothWays, AreGrouped, AreLabels, AreOthers, ArePaired, AreParts, AreSettled, IsGroup, IsLargestAt, JoinsEnds, JoinsLabels, linked_both, relabeled}
 
 -- links that both ends list
 pub both_held : (files : List LinkFile) (tag : List ℕ) (links both : List Link) → ((l : Link) → Contains links l ↔ IsTrue (lists files tag l.from l.to))
@@ -36,15 +24,6 @@ both_held files tag links both members is = record {
         (Among-filter_to (λ m. has_link links (back m)) l links (Among-from_Contains l links ((members l).1 one)) (links_held files tag links members (back l) ∙ other))),
   );
   back = λ a b h. let (one, other) = and_parts (lists files tag a b) (lists files tag b a) h in and_from (lists files tag b a) (lists files tag a b) other one;
-}
-
--- each carrier begins with its own label
-pub own_labels : (linked : Address → Address → Bool) (carriers : List Address) (labels : List ℕ) → length labels ≡ length carriers
-    → ((i : ℕ) → i < length carriers → get_or labels i 0 ≡ i) → AreLabels linked carriers labels
-own_labels linked carriers labels same own = record {
-  same_length = same;
-  not_after = λ i inside. (let is = own i inside in omega arith);
-  joined = λ i inside. ([], ap (system_at carriers) (sym (own i inside)));
 }
 
 module _ (linked : Address → Address → Bool) (back_linked : (a b : Address) → IsTrue (linked a b) → IsTrue (linked b a)) where

@@ -1,9 +1,7 @@
 -- What is left of link files.
 use Rattle.std.proofs.Common.{◌≡◌, ℕ, zero, suc, ◌+◌, ◌<◌, ◌==◌, Bool, true, false, ◌||◌, List, [], ◌∷◌, length, take, get_or, Some, refl, sym, ap, ◌∙◌, arith, inl, inr}
 use Rattle.std.{proofs.lemmas.{Bool.ne_eqb, List.Folds.list_any_more, Option.slice_get_cases}, specs.{Prelude.slice_get, List.list_any}}
-use Rattle.echo_addr.specs.declared.address.Address.{Address}
-use Rattle.echo_links.specs.Links.{LinkFile}
-use Rattle.cmd_suppose.specs.Leaving.{AreLeft, texts_left}
+use Rattle.{echo_addr.specs.declared.address.Address.Address, echo_links.specs.Links.LinkFile, cmd_suppose.specs.Leaving.{AreLeft, texts_left}}
 use Rattle.cmd_status.specs.Inputs.{AreLinkFiles}
 
 -- an item passes at this index

@@ -1,17 +1,15 @@
 -- Which systems are supposed, and their link files.
 use Rattle.std.proofs.Common.{Ok, Err, Result, ◌≡◌, ◌↔◌, ◌⊎◌, ℕ, ◌+◌, ◌<◌, ◌≤◌, Bool, true, false, cond, IsTrue, not, List, [], ◌∷◌, ◌++◌, Contains, codes, length, take, get_or, map, filter, refl, sym, ap, subst, ◌∙◌, inl, inr, arith, append_assoc, append-nil}
-use Rattle.std.proofs.lemmas.{Bool.cases_Bool, Grind.flat_map-append, List.map-append, List.take_more, List.Elements.filter-append}
-use Rattle.std.specs.List.{AllByRecursion, AllZip, flat_map, Sorted.IsStrictlySortedBy}
-use Rattle.echo_addr.specs.declared.address.Address.{Address}
-use Rattle.echo_links.specs.{declared.fault.LinkFault.LinkFault, Found.address_order, LinkLines.LinksOf, Links.Area, Links.LinkFile, Links.upper}
-use Rattle.echo_links.specs.declared.fault.LinkFault.TheVariants as link
+use Rattle.std.proofs.lemmas.{Bool.cases_Bool, Grind.flat_map-append, List.{map-append, take_more, Elements.filter-append}}
+use Rattle.{std.specs.List.{AllByRecursion, AllZip, flat_map, Sorted.IsStrictlySortedBy}, echo_addr.specs.declared.address.Address.Address}
+use Rattle.echo_links.specs.{declared.fault.LinkFault.LinkFault, Found.address_order, LinkLines.LinksOf, Links.{Area, LinkFile, upper}}
 use Rattle.cmd_status.{proofs.Giving.read_more, specs.{declared.fault.Fault.Fault, Ended.IsOutOfMemory, Inputs.{AreLinkFiles, IsLinkFault}}}
-use Rattle.model_graph.proofs.Members.{Among-from_Contains, Contains-from_Among}
-use Rattle.model_run.{specs.Tidy.lists, proofs.Lists.{Among-filter_from, Among-filter_to}}
-use Rattle.echo_net.{specs.{declared.link.Link.Link, Drawn.has_address, Faults.IsCarried, Nets.{link, systems}}, proofs.Drawings.address_held}
-use Rattle.cmd_print.specs.Pushed.{Pushes}
-use Rattle.cmd_suppose.{specs.{Assuming.link_word, Leaving.stays, Listings.{IsListedIn, IsListing}}, proofs.Zips.{zip_from, zip_next, zip_to}}
+use Rattle.{model_graph.proofs.Members.{Among-from_Contains, Contains-from_Among}, model_run.specs.Tidy.lists}
+use Rattle.{model_run.proofs.Lists.{Among-filter_from, Among-filter_to}, echo_net.specs.{declared.link.Link.Link, Drawn.has_address, Faults.IsCarried}}
+use Rattle.{echo_net.{specs.Nets.{link, systems}, proofs.Drawings.address_held}, cmd_print.specs.Pushed.Pushes, cmd_suppose.specs.Assuming.link_word}
+use Rattle.cmd_suppose.{specs.{Leaving.stays, Listings.{IsListedIn, IsListing}}, proofs.Zips.{zip_from, zip_next, zip_to}}
 use Rattle.cmd_suppose.specs.SupposedFiles.{AddsSupposed, AreExactly, AreMissing, AreSupposed, AreSupposedLines, AreUnseen, IsMissing, IsSupposedFile, ReadsMore, Supposes, SupposesIn, area_line, has_supposed, line_of, system_line, unseen_line, unseen_note}
+use Rattle.echo_links.specs.declared.fault.LinkFault.TheVariants as link
 
 pub not_so : (b : Bool) → b ≡ false → b ≡ true → ⊥
 not_so true is h = cc

@@ -1,7 +1,6 @@
 -- Two lists whose items belong together, and the items of a list that pass.
 use Rattle.std.proofs.Common.{◌≡◌, Bool, true, false, cond, filter, append-nil, ℕ, zero, suc, ◌+◌, ◌<◌, List, [], ◌∷◌, ◌++◌, length, take, get_or, refl, sym, ap, subst, ◌∙◌, inl, inr, arith}
-use Rattle.std.{proofs.lemmas.List.{take_more, Elements.filter-append}, specs.List.AllZip}
-use Rattle.model_graph.specs.Walk.{Among}
+use Rattle.{std.{proofs.lemmas.List.{take_more, Elements.filter-append}, specs.List.AllZip}, model_graph.specs.Walk.Among}
 
 module _ {X Y : Type 0} (R : X → Y → Type 0) where
   zip_then : (xs : List X) (ys : List Y) (x : X) (y : Y) → AllZip R xs ys → R x y → AllZip R (xs ++ x ∷ []) (ys ++ y ∷ [])

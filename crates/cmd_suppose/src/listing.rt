@@ -1,11 +1,8 @@
 //! The systems that an area lists, and those that list them.
 
 ghost use Rattle.std.specs.{Prelude.{◌≡◌, ◌++◌, ◌↔◌, ℕ, List, IfOk, OnOk, Contains, map}, List.{flat_map, Sorted.IsStrictlySortedBy}};
-ghost use Rattle.echo_addr.specs.declared.address.Address.{Address};
-ghost use Rattle.echo_links.specs.Links.{LinkFile};
-ghost use Rattle.model_run.specs.Tidy.{lists};
-ghost use Rattle.echo_net.specs.{declared.link.Link.Link, Drawn.back};
-ghost use Rattle.cmd_suppose.specs.Listings.{IsListedIn, IsListing, is_listed, unknown_from};
+ghost use Rattle.{echo_addr.specs.declared.address.Address.Address, echo_links.specs.Links.LinkFile, model_run.specs.Tidy.lists};
+ghost use Rattle.{echo_net.specs.{declared.link.Link.Link, Drawn.back}, cmd_suppose.specs.Listings.{IsListedIn, IsListing, is_listed, unknown_from}};
 ghost use Rattle.echo_net.specs.Nets as net;
 
 use echo_addr::{Address, put_in_order};

@@ -1,8 +1,7 @@
 //! The parts of an area: systems that are joined by links that both ends list.
 
 ghost use Rattle.std.specs.{Prelude.{◌≡◌, ◌<◌, ◌↔◌, ℕ, Bool, IfOk, Contains, filter, length, slice_index, vec_len}, List.Sorted.IsStrictlySortedBy};
-ghost use Rattle.echo_addr.specs.declared.address.Address.{Address};
-ghost use Rattle.echo_net.specs.{declared.link.Link.Link, Drawn.back, Drawn.has_link};
+ghost use Rattle.{echo_addr.specs.declared.address.Address.Address, echo_net.specs.{declared.link.Link.Link, Drawn.{back, has_link}}};
 ghost use Rattle.cmd_suppose.specs.Parts.{AreBothWays, AreCutOff, AreGrouped, AreLabels, AreOthers, ArePaired, AreParts, AreRelabeled, AreSettled, IsLargestAt, JoinsEnds};
 
 use crate::listing::Listing;

@@ -1,14 +1,10 @@
 -- Packets that bring a message, one after another.
 use Rattle.std.proofs.Common.{◌≡◌, ◌∙◌, refl, sym, ap, ℕ, zero, suc, ◌+◌, ◌<◌, arith, true, cond, List, [], ◌∷◌, ◌++◌, append_assoc, drop, length, Option, Some, None}
-use Rattle.std.{proofs.lemmas.Bool.{cond-true, lt-ltb}, specs.Prelude.nat_lt}
-use Rattle.echo_addr.specs.declared.address.Address.{Address}
-use Rattle.echo_links.{specs.Links.same_address, proofs.Addresses.same_address_decides}
-use Rattle.echo_filed.specs.declared.key.Key.{Key}
-use Rattle.model_steps.specs.declared.packet.Packet.{Packet}
-use Rattle.echo_packet.specs.Message.{Message}
-use Rattle.echo_net.specs.declared.drawing.Crossing.{Crossing}
-use Rattle.model_run.specs.{Orderly.copies, Orderly.count, Orderly.origin, Run.destination, Run.nth}
-use Rattle.cmd_why.{proofs.Counting.total, specs.Carrying.{crossing_at, crossings_from, step_of}}
+use Rattle.{std.{proofs.lemmas.Bool.{cond-true, lt-ltb}, specs.Prelude.nat_lt}, echo_addr.specs.declared.address.Address.Address}
+use Rattle.{echo_links.{specs.Links.same_address, proofs.Addresses.same_address_decides}, echo_filed.specs.declared.key.Key.Key}
+use Rattle.{model_steps.specs.declared.packet.Packet.Packet, echo_packet.specs.Message.Message, echo_net.specs.declared.drawing.Crossing.Crossing}
+use Rattle.{model_run.specs.{Orderly.{copies, count, origin}, Run.{destination, nth}}, cmd_why.proofs.Counting.total}
+use Rattle.cmd_why.specs.Carrying.{crossing_at, crossings_from, step_of}
 
 abbrev pub sender_if : Key → Packet → Option Address
 sender_if key p = cond (nat_lt 0 (count key (copies p))) (Some (origin p)) None

@@ -1,14 +1,11 @@
 -- Copies of one message are counted, packet by packet and message by message.
 use Rattle.std.proofs.Common.{◌≡◌, ◌∙◌, inl, inr, refl, sym, subst, ap, ℕ, zero, suc, ◌+◌, ◌<◌, arith, Bool, true, false, cond, List, [], ◌∷◌, length, get_or, map, take, Option, Some, None, Ok}
 use Rattle.std.{proofs.lemmas.List.take_all, specs.Prelude.{◌&&◌, bytes_eq, filter, if◌then◌else◌, is_none, option_map, unwrap_or}}
-use Rattle.echo_addr.specs.declared.address.Address.{Address}
-use Rattle.echo_packet.specs.{Answer.Answer, Answer.AnswersAsDescribed, Answer.Describes, Answer.Found, Message.Message, Packet.PacketOf}
-use Rattle.echo_text.specs.{Echo.msgid_of, Refusal.text_refusal}
-use Rattle.echo_links.specs.Links.{same_address}
-use Rattle.echo_filed.specs.{declared.key.Key.Key, declared.key.Key.TheVariants.ById, Filed.Filed, Filed.key_of, Filed.key_with, Filed.same_key, Written.echo_of}
-use Rattle.model_steps.specs.{declared.packet.Packet.Packet, Tossing.received}
-use Rattle.model_replay.specs.Worlds.{Fits, encoded, unlimited}
-use Rattle.model_run.specs.{Run.destination, Run.nth, Orderly.copies, Orderly.count, Orderly.sent_count}
+use Rattle.{echo_addr.specs.declared.address.Address.Address, echo_packet.specs.{Answer.{Answer, AnswersAsDescribed, Describes, Found}, Message.Message}}
+use Rattle.{echo_packet.specs.Packet.PacketOf, echo_text.specs.{Echo.msgid_of, Refusal.text_refusal}, echo_links.specs.Links.same_address}
+use Rattle.echo_filed.specs.{declared.key.Key.{Key, TheVariants.ById}, Filed.{Filed, key_of, key_with, same_key}, Written.echo_of}
+use Rattle.{model_steps.specs.{declared.packet.Packet.Packet, Tossing.received}, model_replay.specs.Worlds.{Fits, encoded, unlimited}}
+use Rattle.model_run.specs.{Run.{destination, nth}, Orderly.{copies, count, sent_count}}
 
 abbrev pub copies_for : Address → Key → Packet → ℕ
 copies_for to key p = if same_address (destination p) to then count key (copies p) else 0

@@ -1,11 +1,10 @@
 -- The shown harms are harms.
 use Rattle.std.proofs.Common.{◌≡◌, ◌∙◌, ◌⊎◌, inl, inr, refl, sym, subst, ap, ℕ, ◌≤◌, arith, List, length, Option, Some, None}
-use Rattle.echo_addr.specs.declared.address.Address.{Address}
-use Rattle.model_graph.specs.Walk.{Among}
-use Rattle.echo_filed.specs.{declared.key.Key.Key, declared.key.Key.TheVariants.ById, Filed.Filed, Filed.key_of, Stubs.stub_of, Stubs.stub_with}
-use Rattle.model_run.{specs.{Run.{Run, System, nth}, Orderly.{IsPosting, count, sent_count}, Harms.Harm}, proofs.HarmLists.nth-below as nth-there}
-use Rattle.cmd_why.{specs.declared.shown.Harm.{Harm as Reported, TheVariants.{NeverGets, NeverSettles, SentAgain, SentOwn}}, proofs.Judged.{in-nth, nth-in}}
-use Rattle.cmd_why.specs.Found.{BreaksIt, HasHarm, HasPosted}
+use Rattle.{echo_addr.specs.declared.address.Address.Address, model_graph.specs.Walk.Among, echo_filed.specs.declared.key.Key.{Key, TheVariants.ById}}
+use Rattle.{echo_filed.specs.{Filed.{Filed, key_of}, Stubs.{stub_of, stub_with}}, model_run.specs.Run.{Run, System, nth}}
+use Rattle.model_run.{specs.{Orderly.{IsPosting, count, sent_count}, Harms.Harm}, proofs.HarmLists.nth-below as nth-there}
+use Rattle.cmd_why.specs.declared.shown.Harm.{Harm as Reported, TheVariants.{NeverGets, NeverSettles, SentAgain, SentOwn}}
+use Rattle.cmd_why.{specs.Found.{BreaksIt, HasHarm, HasPosted}, proofs.Judged.{in-nth, nth-in}}
 
 stub-sender : (m : Filed) (o : Option (List ℕ)) → (stub_with m o).sender ≡ m.sender
 stub-sender m None = refl

@@ -1,16 +1,12 @@
 -- The harm that a world shows is the harm of its run.
 use Rattle.std.proofs.Common.{◌≡◌, ◌≢◌, ◌∙◌, ◌⊎◌, inl, inr, refl, sym, subst, ap, ℕ, zero, suc, ◌+◌, ◌<◌, ◌≤◌, arith, Bool, true, false, cond, List, [], ◌∷◌, length, Option, Some, None}
 use Rattle.std.{proofs.lemmas.List.Sums.sum_by-cons, specs.{Prelude.{◌&&◌, bytes_eq, option_map, slice_get, unwrap_or}, Cmp.Lexicographic.bytes_decides}}
-use Rattle.echo_addr.specs.declared.address.Address.{Address}
-use Rattle.model_graph.specs.Walk.{Among}
-use Rattle.echo_text.specs.Echo.{msgid_of}
-use Rattle.echo_links.{specs.Links.same_address, proofs.Addresses.same_address_decides}
-use Rattle.echo_filed.{specs.{declared.key.Key.TheVariants.ById, Filed.{Filed, key_of}}, proofs.Keys.same_key_decides}
-use Rattle.model_steps.specs.declared.packet.Packet.{Packet}
-use Rattle.model_run.specs.{Orderly.IsPosting, Orderly.Settled, Orderly.copies, Orderly.count, Orderly.sent_count, Run.Run, Run.System, Run.destination, Run.nth, World.area_count, World.filed_at}
-use Rattle.model_replay.specs.Worlds.{message_at}
+use Rattle.{echo_addr.specs.declared.address.Address.Address, model_graph.specs.Walk.Among, echo_text.specs.Echo.msgid_of, echo_links.specs.Links.same_address}
+use Rattle.{echo_links.proofs.Addresses.same_address_decides, echo_filed.specs.{declared.key.Key.TheVariants.ById, Filed.{Filed, key_of}}}
+use Rattle.{echo_filed.proofs.Keys.same_key_decides, model_steps.specs.declared.packet.Packet.Packet}
+use Rattle.model_run.specs.{Orderly.{IsPosting, Settled, copies, count, sent_count}, Run.{Run, System, destination, nth}, World.{area_count, filed_at}}
+use Rattle.{model_run.proofs.Lists.and-parts as and-both, model_replay.specs.Worlds.message_at}
 use Rattle.cmd_why.{specs.Found.{CarriesAt, GoesToNobody, HasPosted, IsCarrierAt, IsNeverGot, IsSentAgain, IsSentOwn, PostedAt}, proofs.Counting.has_key}
-use Rattle.model_run.proofs.Lists.{and-parts as and-both}
 
 pub is_posted : (m : Filed) (tag id of : List ℕ) (found : Option (List ℕ)) → m.sender ≡ None → of ≡ m.echo.tag → found ≡ msgid_of m.echo.kept →
     bytes_eq of tag && unwrap_or (option_map (λ (f : List ℕ). bytes_eq f id) found) false ≡ true →

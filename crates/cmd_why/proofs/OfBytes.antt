@@ -1,10 +1,8 @@
 -- Link files that are read one after another.
 use Rattle.std.proofs.Common.{◌≡◌, ◌⊎◌, ◌∙◌, inl, inr, sym, subst, ap, ℕ, zero, suc, ◌+◌, ◌<◌, arith, List, [], ◌∷◌, ◌++◌, length, get_or, take, Some}
-use Rattle.std.specs.Prelude.{Result, Ok, Err}
-use Rattle.echo_links.specs.{declared.fault.LinkFault.LinkFault, LinkLines.LinksOf, LinkLines.file_of, Links.IsFile, Links.LinkFile}
+use Rattle.{std.specs.Prelude.{Result, Ok, Err}, echo_links.specs.{declared.fault.LinkFault.LinkFault, LinkLines.{LinksOf, file_of}, Links.{IsFile, LinkFile}}}
+use Rattle.{model_run.specs.{Fits.FilesFit, Run.nth}, cmd_why.{specs.Sources.files_of, proofs.Counting.nth-read}}
 use Rattle.echo_links.specs.declared.fault.LinkFault.TheVariants as fault
-use Rattle.model_run.specs.{Fits.FilesFit, Run.nth}
-use Rattle.cmd_why.{specs.Sources.files_of, proofs.Counting.nth-read}
 
 pub of_bytes : (bytes : List ℕ) (file : LinkFile) → (let read : Result LinkFile LinkFault = Ok file in (read ≡ Err fault.Memory) ⊎ LinksOf bytes read) → LinksOf bytes (Ok file)
 of_bytes bytes file h = elim h [ inl memory ↦ absurd (cc) | inr is ↦ is ]

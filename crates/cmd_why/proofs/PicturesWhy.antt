@@ -1,12 +1,10 @@
 -- The answer of `picture --why`, from those of its parts.
-use Rattle.std.{proofs.Common.{◌≡◌, ℕ, List, Option, refl, sym, ap, ◌∙◌}, specs.Prelude.IfSome}
-use Rattle.echo_links.specs.Links.{LinkFile, upper}
-use Rattle.echo_net.specs.{declared.drawing.Crossing.Crossing, declared.drawing.Drawing.Drawing, declared.verdict.Verdict.Verdict, Drawn.IsDrawing}
+use Rattle.{std.{proofs.Common.{◌≡◌, ℕ, List, Option, refl, sym, ap, ◌∙◌}, specs.Prelude.IfSome}, echo_links.specs.Links.{LinkFile, upper}}
+use Rattle.echo_net.specs.{declared.{drawing.{Crossing.Crossing, Drawing.Drawing}, verdict.Verdict.Verdict}, Drawn.IsDrawing}
 use Rattle.cmd_why.specs.{declared.shown.Shown.Shown, Carrying.found_crossings, Found.IsShown, Sources.files_of, PicturingWhy.IsPicturedWhy}
-use Rattle.cmd_status.specs.{declared.status.Status.Status, Inputs.AreLinkFiles}
+use Rattle.{cmd_why.proofs.ShownRuns.{given_files, was_shown}, cmd_status.specs.{declared.status.Status.Status, Inputs.AreLinkFiles}}
 use Rattle.cmd_check.{specs.Checking.{IsCheckVerdict, verdict_status}, proofs.Checks.{good_is_yes, of_same, yes_is_good}}
 use Rattle.cmd_print.specs.Pictured.{picture_lines}
-use Rattle.cmd_why.proofs.ShownRuns.{given_files, was_shown}
 
 -- the verdict, the picture and the run of link files that were read
 pub record IsDrawnWhy (inputs : List (List ℕ)) (files : List LinkFile) (t : List ℕ) (verdict : Verdict) (drawing : Drawing) (found : Option Shown) : Type 0 where

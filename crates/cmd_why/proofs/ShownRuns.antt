@@ -1,9 +1,7 @@
 -- A run found by the bytes of link files is a run found on these files.
-use Rattle.std.{proofs.Common.{◌≡◌, ℕ, List, [], ◌∷◌, Option, refl, sym, ap, ◌∙◌}, specs.Prelude.IfSome}
-use Rattle.echo_links.specs.{Links.LinkFile, Links.upper, LinkLines.file_of}
-use Rattle.cmd_why.specs.{declared.shown.Shown.Shown, Sources.files_of, Found.IsShown}
-use Rattle.cmd_status.specs.Inputs.{AreLinkFiles}
-use Rattle.cmd_check.proofs.Checks.{of_same}
+use Rattle.{std.{proofs.Common.{◌≡◌, ℕ, List, [], ◌∷◌, Option, refl, sym, ap, ◌∙◌}, specs.Prelude.IfSome}, echo_links.specs.Links.{LinkFile, upper}}
+use Rattle.{echo_links.specs.LinkLines.file_of, cmd_why.specs.{declared.shown.Shown.Shown, Sources.files_of, Found.IsShown}}
+use Rattle.{cmd_status.specs.Inputs.AreLinkFiles, cmd_check.proofs.Checks.of_same}
 
 -- the link files that were read are those of their bytes
 pub given_files : (inputs : List (List ℕ)) (files : List LinkFile) → AreLinkFiles inputs files → files_of inputs ≡ files

@@ -1,14 +1,10 @@
 -- The way of a harm's message to the system that the harm names: the packets to that system that hold it.
 use Rattle.std.specs.Prelude.{ℕ, ◌+◌, ◌&&◌, nat_le, nat_lt, Bool, count_by, if◌then◌else◌, List, [], ◌∷◌, ◌++◌, Option, Some, None}
-use Rattle.echo_addr.specs.declared.address.Address.{Address}
-use Rattle.echo_links.specs.Links.{LinkFile, same_address}
-use Rattle.echo_filed.specs.declared.key.Key.{Key, TheVariants.ById}
-use Rattle.model_steps.specs.declared.packet.Packet.{Packet}
-use Rattle.echo_net.specs.declared.drawing.Crossing.{Crossing}
-use Rattle.model_replay.specs.Counts.{packet_counts}
-use Rattle.model_run.specs.{Orderly.copies, Orderly.count, Orderly.origin, Run.destination, Run.start}
-use Rattle.cmd_why.specs.declared.shown.{Harm.Harm, Harm.TheVariants.NeverGets, Harm.TheVariants.NeverSettles, Harm.TheVariants.SentAgain, Harm.TheVariants.SentOwn, Shown.Shown}
-use Rattle.cmd_why.specs.Shown.{posting_and_moves, shown_run}
+use Rattle.{echo_addr.specs.declared.address.Address.Address, echo_links.specs.Links.{LinkFile, same_address}, echo_filed.specs.declared.key.Key.Key}
+use Rattle.{echo_filed.specs.declared.key.Key.TheVariants.ById, model_steps.specs.declared.packet.Packet.Packet}
+use Rattle.{echo_net.specs.declared.drawing.Crossing.Crossing, model_replay.specs.Counts.packet_counts, model_run.specs.Orderly.{copies, count, origin}}
+use Rattle.{model_run.specs.Run.{destination, start}, cmd_why.specs.declared.shown.Harm.{Harm, TheVariants.{NeverGets, NeverSettles, SentAgain, SentOwn}}}
+use Rattle.cmd_why.specs.{declared.shown.Shown.Shown, Shown.{posting_and_moves, shown_run}}
 
 abbrev pub system_named : Harm → Option Address
 system_named (SentAgain a times) = Some a

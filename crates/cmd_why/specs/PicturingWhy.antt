@@ -1,13 +1,9 @@
 -- The answer of `picture --why`.
-use Rattle.std.specs.Prelude.{◌≡◌, ℕ, ◌↔◌, IfSome, List, Option, None, Result}
-use Rattle.cmd_status.specs.{Devices.Output, declared.fault.Fault.Fault, declared.status.Status.Status, declared.status.Status.TheVariants.Good, Ended.Answers}
-use Rattle.cmd_status.specs.Inputs.{AreLinkFiles, IsFirstFaultGiven}
-use Rattle.echo_links.specs.Links.{LinkFile, upper}
-use Rattle.model_run.specs.Tidy.{Tidy}
-use Rattle.echo_net.specs.{declared.drawing.Crossing.Crossing, declared.drawing.Drawing.Drawing, declared.verdict.Verdict.Verdict, Drawn.IsDrawing}
-use Rattle.cmd_why.specs.{declared.shown.Shown.Shown, Carrying.found_crossings, Found.IsShown, Sources.files_of}
-use Rattle.cmd_print.specs.Pictured.{picture_lines}
-use Rattle.cmd_check.specs.Checking.{IsCheckVerdict, verdict_status}
+use Rattle.{std.specs.Prelude.{◌≡◌, ℕ, ◌↔◌, IfSome, List, Option, None, Result}, cmd_status.specs.{Devices.Output, declared.fault.Fault.Fault}}
+use Rattle.cmd_status.specs.{declared.status.Status.{Status, TheVariants.Good}, Ended.Answers, Inputs.{AreLinkFiles, IsFirstFaultGiven}}
+use Rattle.{echo_links.specs.Links.{LinkFile, upper}, model_run.specs.Tidy.Tidy, echo_net.specs.declared.drawing.{Crossing.Crossing, Drawing.Drawing}}
+use Rattle.{echo_net.specs.{declared.verdict.Verdict.Verdict, Drawn.IsDrawing}, cmd_why.specs.{declared.shown.Shown.Shown, Carrying.found_crossings}}
+use Rattle.{cmd_why.specs.{Found.IsShown, Sources.files_of}, cmd_print.specs.Pictured.picture_lines, cmd_check.specs.Checking.{IsCheckVerdict, verdict_status}}
 
 -- The link files have no fault. These lines draw the area of the tag in upper case, with the parts of the verdict
 -- marked. If a run is found that does harm, the links are labelled by which its message reaches the system of the

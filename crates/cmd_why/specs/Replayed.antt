@@ -1,8 +1,7 @@
 -- The lines of `replay`.
 use Rattle.std.specs.{Prelude.{ℕ, ◌+◌, Bool, List, [], ◌∷◌, ◌++◌, codes, decimal, if◌then◌else◌, length}, List.flat_map}
-use Rattle.echo_addr.specs.{declared.address.Address.Address, Address.address_text}
-use Rattle.echo_links.specs.Links.{Area, LinkFile}
-use Rattle.model_run.specs.{Run.Run, World.filed_at, World.is_settled, World.undelivered, World.waiting_at}
+use Rattle.{echo_addr.specs.{declared.address.Address.Address, Address.address_text}, echo_links.specs.Links.{Area, LinkFile}, model_run.specs.Run.Run}
+use Rattle.model_run.specs.World.{filed_at, is_settled, undelivered, waiting_at}
 
 -- The line of an area: its address, its tag and its two numbers. The tag is printed unchanged.
 abbrev pub area_counts_line : Address → List ℕ → ℕ → ℕ → List ℕ

@@ -1,11 +1,9 @@
 -- The answer of `replay`.
-use Rattle.std.specs.Prelude.{◌≡◌, ℕ, ◌⊎◌, List, length, map, Option, Some, None, Result, Ok, Err}
-use Rattle.cmd_status.specs.{Devices.Output, declared.fault.Fault.Fault, declared.fault.Fault.TheVariants.ScriptLine, declared.status.Status.Status, declared.status.Status.TheVariants.Good}
-use Rattle.cmd_status.specs.{Ended.Answers, Inputs.AreLinkFiles, Inputs.IsLinkFault}
-use Rattle.echo_links.specs.Links.{LinkFile}
-use Rattle.model_run.specs.{declared.event.Event.Event, Event.run_event, Run.Run, Run.System, Run.run_of}
-use Rattle.model_replay.specs.{declared.script.ScriptFault.TheVariants.Line, Script.ScriptOf, Worlds.IsWorldOf, Worlds.WorldState}
-use Rattle.cmd_why.specs.Replayed.{replay_lines}
+use Rattle.{std.specs.Prelude.{◌≡◌, ℕ, ◌⊎◌, List, length, map, Option, Some, None, Result, Ok, Err}, cmd_status.specs.Devices.Output}
+use Rattle.cmd_status.specs.{declared.{fault.Fault.{Fault, TheVariants.ScriptLine}, status.Status.{Status, TheVariants.Good}}, Ended.Answers}
+use Rattle.{cmd_status.specs.Inputs.{AreLinkFiles, IsLinkFault}, echo_links.specs.Links.LinkFile, model_run.specs.{declared.event.Event.Event, Event.run_event}}
+use Rattle.{model_run.specs.Run.{Run, System, run_of}, model_replay.specs.{declared.script.ScriptFault.TheVariants.Line, Script.ScriptOf}}
+use Rattle.{model_replay.specs.Worlds.{IsWorldOf, WorldState}, cmd_why.specs.Replayed.replay_lines}
 
 -- Neither the script nor a link file has a fault. These are the lines for the run of its events on them.
 pub record IsReplayed (script : List ℕ) (inputs : List (List ℕ)) (lines : List ℕ) (status : Status) : Type 0 where

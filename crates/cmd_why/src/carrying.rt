@@ -1,11 +1,9 @@
 //! The packets by which the message of a harm reaches the system of the harm, and when these were made.
 
-ghost use Rattle.std.specs.Prelude.{◌≡◌, ◌++◌, IfOk, OnOk, Some, None, if◌then◌else◌, nat_lt, option_copied};
-ghost use Rattle.echo_filed.specs.declared.key.Key.TheVariants.{ById};
-ghost use Rattle.model_replay.specs.Worlds.{Fits, IsWorldOf, encoded};
-ghost use Rattle.model_run.specs.{Orderly.copies, Orderly.count, Orderly.origin, Run.Run, Run.nth};
+ghost use Rattle.{std.specs.Prelude.{◌≡◌, ◌++◌, IfOk, OnOk, Some, None, if◌then◌else◌, nat_lt, option_copied}, echo_filed.specs.declared.key.Key.TheVariants.ById};
+ghost use Rattle.{model_replay.specs.Worlds.{Fits, IsWorldOf, encoded}, model_run.specs.{Orderly.{copies, count, origin}, Run.{Run, nth}}};
 ghost use Rattle.model_steps.specs.declared.packet.Packet.{Packet};
-ghost use Rattle.cmd_why.specs.{Carrying.crossing_at, Carrying.crossings_from, Carrying.found_crossings, Carrying.shown_crossings, Carrying.step_of, Carrying.system_named, Sources.files_of};
+ghost use Rattle.cmd_why.specs.{Carrying.{crossing_at, crossings_from, found_crossings, shown_crossings, step_of, system_named}, Sources.files_of};
 
 use crate::copies::{count_copies, is_for, parts_of};
 use crate::events::events_of;

@@ -1,10 +1,7 @@
 ghost use Rattle.std.specs.Prelude.{◌≡◌, ◌&&◌, false, IfOk, IsTrue, bytes_eq, is_none, unwrap_or, option_copied, option_map, if◌then◌else◌, map, filter};
-ghost use Rattle.echo_addr.specs.declared.address.Address.{Address as Sender};
-ghost use Rattle.echo_filed.specs.{declared.key.Key.TheVariants.ById, Filed.key_of, Filed.same_key};
-ghost use Rattle.echo_links.specs.Links.{same_address};
-ghost use Rattle.model_run.specs.{Orderly.IsPosting, Orderly.copies, Orderly.count, Orderly.sent_count, Run.Run, Run.destination, Run.nth};
-ghost use Rattle.model_replay.specs.Worlds.{Fits, IsWorldOf, encoded};
-ghost use Rattle.model_steps.specs.{declared.packet.Packet.Packet, Tossing.received};
+ghost use Rattle.{echo_addr.specs.declared.address.Address.Address as Sender, echo_filed.specs.{declared.key.Key.TheVariants.ById, Filed.{key_of, same_key}}};
+ghost use Rattle.{echo_links.specs.Links.same_address, model_run.specs.{Orderly.{IsPosting, copies, count, sent_count}, Run.{Run, destination, nth}}};
+ghost use Rattle.{model_replay.specs.Worlds.{Fits, IsWorldOf, encoded}, model_steps.specs.{declared.packet.Packet.Packet, Tossing.received}};
 ghost use Rattle.echo_text.specs.Refusal.{text_refusal};
 
 use echo_addr::Address;

@@ -1,5 +1,4 @@
-ghost use Rattle.std.specs.Prelude.{◌≡◌, IfOk, map};
-ghost use Rattle.model_run.specs.{Event.run_event, Postings.trial_draft, Postings.trial_posting};
+ghost use Rattle.{std.specs.Prelude.{◌≡◌, IfOk, map}, model_run.specs.{Event.run_event, Postings.{trial_draft, trial_posting}}};
 ghost use Rattle.cmd_why.specs.Shown.{posting_and_moves, run_move};
 
 use echo_addr::Items;

@@ -105,35 +105,17 @@ fn why_words<'a>(alloc: Global, matches: &ArgMatches<'a>) -> Result<Option<Words
 }
 
 fn post_words<'a>(matches: &ArgMatches<'a>) -> Option<Words<'a>> {
-    let texts = texts_in(matches)?;
     let stated = stated_in(matches)?;
     Some(Words::Station(StationWords::Post(PostWords {
-        area: texts.area,
-        to: texts.to,
-        from: texts.from,
-        subject: texts.subject,
+        area: matches.get_str("area")?,
+        to: matches.get_str("to")?,
+        from: matches.get_str("from")?,
+        subject: matches.get_str("subject")?,
         serial: stated.serial,
         at: stated.at,
         reply: matches.get_str("reply"),
         place: stated.place,
     })))
-}
-
-#[derive(Clone, Copy)]
-struct Texts<'a> {
-    area: &'a str,
-    to: &'a str,
-    from: &'a str,
-    subject: &'a str,
-}
-
-fn texts_in<'a>(matches: &ArgMatches<'a>) -> Option<Texts<'a>> {
-    Some(Texts {
-        area: matches.get_str("area")?,
-        to: matches.get_str("to")?,
-        from: matches.get_str("from")?,
-        subject: matches.get_str("subject")?,
-    })
 }
 
 #[derive(Clone, Copy)]

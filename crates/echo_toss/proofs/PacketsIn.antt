@@ -1,5 +1,5 @@
 -- A packet is tossed into a store, message by message.
-use Rattle.std.proofs.Common.{◌≡◌, ◌≤◌, ℕ, ◌+◌, List, [], inl, refl, sym, ap, ◌∙◌, subst, arith, Option, IfSome, Result, Ok, Err}
+use Rattle.std.proofs.Common.{◌≡◌, ◌≤◌, ℕ, ◌+◌, List, [], inl, refl, sym, ap, ◌∙◌, subst, arith, Option, IfSome, Ok, Err}
 use Rattle.std.{proofs.KnownBytes.{Consumes-nil, Consumes-trans}, specs.Io.KnownBytes.Consumes}
 use Rattle.disk_io.specs.Disk.{Honestly}
 use Rattle.echo_addr.specs.declared.address.Address.{Address}
@@ -9,7 +9,7 @@ use Rattle.base_file.specs.Base.{Base}
 use Rattle.echo_links.specs.Links.{LinkFile}
 use Rattle.base_store.{specs.Store.{CommitsNothing, GoesOn, StoreState}, proofs.Runs.{looks_commit, looks_go_on, no_look}}
 use Rattle.model_steps.specs.{declared.outcome.Outcome.{TheVariants.{BadTag, Filed, Known, NoArea, NotEcho, NotLinked}, Outcome}, SystemState.SystemState}
-use Rattle.echo_toss.specs.{declared.tally.Tally.Tally, declared.fault.TossCause.TossCause, Tallies.all_counted, Tallies.tally_of, Tallies.tally_with, PacketSteps.cause_of, PacketSteps.PacketStep, PacketSteps.TossesAll, PacketSteps.TossesPart, Messages.IsOpened, Messages.IsUnopened, Messages.TossesToEnd, declared.step_error.StoppedToss.StoppedToss, PacketsIn.ReadsMessages, PacketsIn.TossesPacketIn, PacketsIn.packet_answer, PacketsIn.state_in}
+use Rattle.echo_toss.specs.{declared.tally.Tally.Tally, declared.fault.TossCause.TossCause, Tallies.all_counted, Tallies.tally_of, Tallies.tally_with, PacketSteps.cause_of, PacketSteps.TossesAll, PacketSteps.TossesPart, Messages.IsOpened, Messages.IsUnopened, Messages.TossesToEnd, PacketsIn.ReadsMessages, PacketsIn.state_in}
 use Rattle.echo_toss.specs.declared.fault.TossCause.TheVariants as stop
 use Rattle.echo_toss.proofs.PacketTosses.{HasGone, all_given, some_taken}
 
@@ -108,9 +108,3 @@ tossed_none limits s before after tally (stop.Packet fault.Stopped) none u = inl
 tossed_none limits s before after tally (stop.Packet (fault.Write n)) none u = inl (record { fault = u.fault; inside = u.inside; nothing = (refl, none) })
 tossed_none limits s before after tally (stop.Packet (fault.TooManyMessages n)) none u = inl (record { fault = u.fault; inside = u.inside; nothing = (refl, none) })
 tossed_none limits s before after tally (stop.Packet (fault.BadField n)) none u = inl (record { fault = u.fault; inside = u.inside; nothing = (refl, none) })
-
--- a store that undoes failures and holds only this base acts like a system
-pub tossed_at : (limits : Limits) (file : LinkFile) (base after : Base) (before rest : Option (List ℕ)) (old new : StoreState) (result : Result Tally StoppedToss)
-    → old.undoes → ((b : Base) → new.keeps b → b ≡ after) → TossesPacketIn limits file base before rest old result new
-    → PacketStep limits (state_in file base) before rest (packet_answer result) (state_in file after)
-tossed_at limits file base after before rest old new result undoes alone went = grind arith

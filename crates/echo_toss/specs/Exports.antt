@@ -1,7 +1,7 @@
 -- The copies that a scan makes of waiting messages, and those made again.
-use Rattle.std.specs.Prelude.{◌≡◌, ℕ, Bool, true, false, List, [], ◌∷◌, ◌++◌, map, filter, slice_get, Some, Result, Ok, Err, Vec}
-use Rattle.std.specs.{declared.alloc.Global.Global, List.flat_map, List.list_any}
-use Rattle.model_steps.specs.{declared.fault.ScanFault.ScanFault, declared.packet.Packet.Packet, declared.stamp.Stamp.Stamp, Resending.is_resent, Scanning.copy_to, Scanning.header_to, Scanning.targets}
+use Rattle.std.specs.Prelude.{◌≡◌, ℕ, Bool, true, false, List, [], ◌∷◌, ◌++◌, map, filter, slice_get, Some}
+use Rattle.std.specs.List.{flat_map, list_any}
+use Rattle.model_steps.specs.{declared.packet.Packet.Packet, declared.stamp.Stamp.Stamp, Resending.is_resent, Scanning.copy_to, Scanning.header_to, Scanning.targets}
 use Rattle.echo_addr.specs.declared.address.Address.{Address}
 use Rattle.echo_packet.specs.Message.{Message, readdressed}
 use Rattle.echo_links.specs.Links.{LinkFile, same_address}
@@ -55,7 +55,3 @@ packet_out file stamp all address = record {
 -- One packet for each address that receives some messages.
 abbrev pub packets_out : LinkFile → Stamp → List OutgoingMessage → List Packet
 packets_out file stamp all = map (packet_out file stamp all) (address_set (flat_map (λ o. o.targets) all))
-
-abbrev pub listed : Result (Vec Packet Global) ScanFault → Result (List Packet) ScanFault
-listed (Ok packets) = Ok packets.items
-listed (Err fault) = Err fault

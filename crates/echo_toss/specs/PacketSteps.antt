@@ -5,8 +5,13 @@ use Rattle.disk_io.specs.Device.{Failed}
 use Rattle.echo_packet.specs.{declared.header.Header.Header, declared.limits.Limits.Limits, declared.fault.PacketFault.PacketFault, Header.IsHeader, Header.header_bytes, Message.AreMessages, Message.Message, Message.messages_bytes, Packet.PacketOf, Fault.FaultOf, Field.Consumed, Reader.FailsInFront, Reader.FrontFault}
 use Rattle.echo_packet.specs.declared.fault.PacketFault.TheVariants as fault
 use Rattle.model_steps.specs.{SystemState.SystemState, Tossing.destination_of, Tossing.sender_of, Tossing.outcomes, Tossing.tossed}
-use Rattle.echo_toss.specs.{declared.tally.Tally.Tally, declared.fault.TossCause.TossCause, declared.fault.TossFault.TossFault, Tallies.tally_of}
+use Rattle.echo_toss.specs.{declared.tally.Tally.Tally, declared.fault.TossCause.TossCause, Tallies.tally_of}
 use Rattle.echo_toss.specs.declared.fault.TossCause.TheVariants as stop
+
+-- A toss of a packet that stopped, and the outcomes of the messages before. These stay tossed.
+pub record TossFault : Type 0 where
+  pub tally : Tally
+  pub cause : TossCause
 
 abbrev pub cause_of : PacketFault → TossCause
 cause_of fault.Memory = stop.Memory

@@ -6,7 +6,7 @@ use Rattle.base_file.specs.Base.{Base}
 use Rattle.echo_links.specs.Links.{LinkFile}
 use Rattle.base_store.specs.{Store.GoesOn, Store.StoreState, declared.store_error.StoreError.StoreError}
 use Rattle.model_steps.specs.SystemState.{SystemState}
-use Rattle.echo_toss.specs.{declared.tally.Tally.Tally, declared.fault.TossCause.TossCause, declared.fault.TossFault.TossFault, declared.step_error.TossStepError.TossStepError, declared.step_error.StoppedToss.StoppedToss, Tallies.all_counted, PacketSteps.PacketStep, Messages.TossesMessages}
+use Rattle.echo_toss.specs.{declared.tally.Tally.Tally, declared.fault.TossCause.TossCause, declared.step_error.TossStepError.TossStepError, declared.step_error.StoppedToss.StoppedToss, Tallies.all_counted, PacketSteps.PacketStep, PacketSteps.TossFault, Messages.TossesMessages}
 use Rattle.echo_toss.specs.declared.fault.TossCause.TheVariants as cause
 use Rattle.echo_toss.specs.declared.step_error.TossStepError.TheVariants as toss
 

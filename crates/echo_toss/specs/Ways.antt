@@ -1,5 +1,5 @@
 -- What a scan makes of the sender and the lists of a message. All messages that came the same way share it.
-use Rattle.std.specs.Prelude.{◌≡◌, ℕ, true, List, ◌++◌}
+use Rattle.std.specs.Prelude.{◌≡◌, ℕ, true, List, ◌++◌, SomeIndex, slice_get, MatchOption}
 use Rattle.echo_addr.specs.ShortLines.{path_prefix, seen_prefix}
 use Rattle.echo_text.specs.Echo.{EchoText}
 use Rattle.echo_filed.specs.{Filed.Filed, Sets.address_set, Written.short_lines}
@@ -17,6 +17,10 @@ pub record CameOn (way : Way) (m : Filed) : Type 0 where
   pub tag : way.tag ≡ m.echo.tag
   pub seen : way.seen ≡ m.echo.seen
   pub path : way.path ≡ m.echo.path
+
+-- The message came on the way of this number.
+abbrev pub CameOnOne : List Way → Filed → ℕ → Type 0
+CameOnOne ways m i = MatchOption (slice_get ways i) ⊥ (λ way. CameOn way m)
 
 -- The messages that came this way have receivers. The way has these receivers, and the lines of the copies.
 pub record IsWay (file : LinkFile) (way : Way) : Type 0 where

@@ -1,4 +1,3 @@
-use crate::tally::Tally;
 use echo_addr::Address;
 use echo_packet::PacketFault;
 
@@ -25,11 +24,4 @@ impl From<PacketFault> for TossCause {
             other => TossCause::Packet(other),
         }
     }
-}
-
-/// A toss of a packet that stopped, and the outcomes of the messages before. These stay tossed.
-#[derive(Clone, Copy)]
-pub struct TossFault {
-    pub tally: Tally,
-    pub cause: TossCause,
 }

@@ -72,12 +72,12 @@ pub fn gather_group<T: Store>(
     ensures cause { HasStoreCause (T.state store.old) (T.state store.new) (T.failures store.old) (T.failures store.new) result }
 {
     let mut sent = Vec::new(alloc);
-    let mut last = None;
-    push_message(alloc, links, store, from, &mut last, &mut sent)?;
+    let mut ways = Vec::new(alloc);
+    push_message(alloc, links, store, from, &mut ways, &mut sent)?;
     let mut bytes = last_text(&sent);
     let mut at = from + 1;
     'group: while at < end && bytes < MANY_BYTES {
-        push_message(alloc, links, store, at, &mut last, &mut sent)?;
+        push_message(alloc, links, store, at, &mut ways, &mut sent)?;
         bytes = bytes.saturating_add(last_text(&sent));
         at += 1;
     }

@@ -4,7 +4,7 @@ ghost use Rattle.std.specs.Prelude.{◌≡◌, ◌≢◌, ℕ, List, [], ◌++�
 ghost use Rattle.echo_packet.specs.{declared.header.Header.Header, declared.limits.Limits.Limits, Header.IsHeader, Header.header_bytes, Message.Message, Packet.PacketOf};
 ghost use Rattle.model_steps.specs.{SystemState.SystemState, Tossing.destination_of, Tossing.sender_of};
 ghost use Rattle.echo_toss.specs.declared.fault.TossCause.TheVariants as stop;
-ghost use Rattle.echo_toss.specs.{declared.fault.TossFault.TossFault, declared.tally.Tally.Tally, Tallies.tally_of, PacketSteps.CountsToss, PacketSteps.IsForUs, PacketSteps.PacketStep, PacketSteps.WholeStep};
+ghost use Rattle.echo_toss.specs.{declared.tally.Tally.Tally, Tallies.tally_of, PacketSteps.CountsToss, PacketSteps.IsForUs, PacketSteps.PacketStep, PacketSteps.TossFault, PacketSteps.WholeStep};
 
 /// The toss of a packet's bytes, whatever follows them, from a reader that does not fail.
 pub fn packet_laws()

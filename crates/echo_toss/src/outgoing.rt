@@ -1,5 +1,5 @@
 //! The outgoing form of a message that waits for a scan.
-ghost use Rattle.std.specs.Prelude.{◌≡◌, ◌<◌, [], ◌∷◌, ◌++◌, ◌&&◌, not, false, length, filter, drop, option_map, unwrap_or, IfOk, IfSome, IsErrOf, OnOk};
+ghost use Rattle.std.specs.Prelude.{◌≡◌, ◌<◌, [], ◌∷◌, ◌++◌, ◌&&◌, not, false, length, filter, drop, option_map, unwrap_or, All, IfOk, IsErrOf, OnOk};
 ghost use Rattle.std.specs.List.{list_any};
 ghost use Rattle.echo_addr.specs.Address.{net_node_of};
 ghost use Rattle.echo_links.specs.Links.{links_of, same_address};
@@ -54,10 +54,10 @@ pub(crate) fn waiting<T: Store>(
 {
     let mut all = Vec::new(alloc);
     let count = store.len();
-    let mut last = None;
+    let mut ways = Vec::new(alloc);
     let mut at = store.cursor();
     'waiting: while at < count {
-        push_message(alloc, links, store, at, &mut last, &mut all)?;
+        push_message(alloc, links, store, at, &mut ways, &mut all)?;
         at += 1;
     }
     Ok(all)
@@ -68,22 +68,22 @@ pub(crate) fn push_message<T: Store>(
     links: &LinkFile,
     store: &mut T,
     place: usize,
-    last: &mut Option<Way>,
+    ways: &mut Vec<Way>,
     all: &mut Vec<OutgoingMessage>,
 ) -> Result<(), StoreError>
     requires ready { (T.state store.old).is_ready }
-    requires last { IfSome last.old (IsWay links.now) }
+    requires ways { All (IsWay links.now) ways.old.items }
     requires within { Honestly (T.state store.old).disk ((base : Base) → (T.state store.old).keeps base → place < length base.messages) }
     ensures grown { Honestly (T.state store.new).disk ((base : Base) → (T.state store.old).keeps base
         → OnOk result (GrowsByMessageAt links.now base.messages place all.old.items all.new.items)) }
     ensures looks { LooksOn (T.state store.old) (T.state store.new) }
     ensures many { IsErrOf result StoreError.TooMany → (T.state store.old).is_full }
     ensures cause { HasStoreCause (T.state store.old) (T.state store.new) (T.failures store.old) (T.failures store.new) result }
-    ensures last { IfSome last.new (IsWay links.now) }
+    ensures ways { All (IsWay links.now) ways.new.items }
 {
     store.fetch(place)?;
     match store.at_hand() {
-        Some(message) => Ok(push_prepared(alloc, links, message, last, all)?),
+        Some(message) => Ok(push_prepared(alloc, links, message, ways, all)?),
         None => Err(StoreError::Damaged),
     }
 }
@@ -138,18 +138,19 @@ fn push_prepared(
     alloc: Global,
     links: &LinkFile,
     message: &Filed,
-    last: &mut Option<Way>,
+    ways: &mut Vec<Way>,
     all: &mut Vec<OutgoingMessage>,
 ) -> Result<(), AllocError>
-    requires { IfSome last.old (IsWay links.now) }
+    requires { All (IsWay links.now) ways.old.items }
     ensures sent { OnOk result (all.new.items ≡ all.old.items ++ sent_of links.now (message.now ∷ [])) }
-    ensures last { IfSome last.new (IsWay links.now) }
+    ensures ways { All (IsWay links.now) ways.new.items }
 {
-    let Some(way) = way_of(alloc, links, last.take(), message)? else {
+    let Some(at) = way_of(alloc, links, ways, message)? else {
         return Ok(());
     };
-    all.push(prepared_on(alloc, links, message, &way)?)?;
-    *last = Some(way);
+    if let Some(way) = ways.get(at) {
+        all.push(prepared_on(alloc, links, message, way)?)?;
+    }
     Ok(())
 }
 

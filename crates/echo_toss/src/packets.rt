@@ -4,13 +4,12 @@ ghost use Rattle.disk_io.specs.Disk.{Honestly};
 ghost use Rattle.base_file.specs.Base.{Base};
 ghost use Rattle.base_store.specs.{Store.CommitsNothing, Store.HasStoreCause, declared.store_error.StoreError.TheVariants.TooMany};
 ghost use Rattle.model_steps.specs.Tossing.{destination_of, sender_of, zone_of};
-ghost use Rattle.echo_toss.specs.PacketsIn.{GoesOnUnlessFailed, ReadsMessages, ReadsPacket, TossesMessagesIn, TossesPacketIn, cause_in, messages_answer, packet_answer, stop_in, toss_answer};
-ghost use Rattle.echo_toss.specs.{Bounds.AddsReceived, Bounds.IsPastBound, Tallies.all_counted, Tallies.tally_of, PacketSteps.CountsToss, PacketSteps.PacketStep, Messages.CountsStop, Messages.IsOpened, Messages.IsUnopened};
+ghost use Rattle.echo_toss.specs.PacketsIn.{GoesOnUnlessFailed, ReadsMessages, ReadsPacket, TossesMessagesIn, TossesPacketIn, messages_answer, packet_answer, stop_in, toss_answer};
+ghost use Rattle.echo_toss.specs.{Bounds.AddsReceived, Bounds.IsPastBound, Tallies.all_counted, Tallies.tally_of, PacketSteps.CountsToss, Messages.CountsStop, Messages.IsOpened, Messages.IsUnopened};
 
-use crate::fault::{TossCause, TossFault};
+use crate::fault::TossCause;
 use crate::step_error::{StoppedToss, TossStepError};
 use crate::tally::Tally;
-use crate::tosser::Tosser;
 use crate::tossing::toss_step;
 use base_store::Store;
 use disk_io::Source;
@@ -18,7 +17,6 @@ use echo_addr::Address;
 use echo_links::LinkFile;
 use echo_packet::{Buffers, HEADER_BYTES, Header, Limits, read_header, read_next};
 use std::alloc::Global;
-use std::hash::BuildHasher;
 
 /// Tosses the messages of the packet at the front of the reader into the store, in order. Their sender is the origin
 /// in the packet's header; a zone 0 there means the own zone. Nothing is committed. `NotForUs`: the destination is not
@@ -51,32 +49,6 @@ pub fn toss_packet<T: Store, R: Source>(
     match toss_messages(alloc, links, store, sender, reader, limits, &mut tally) {
         Ok(()) => Ok(tally),
         Err(stop) => Err(StoppedToss { tally, stop }),
-    }
-}
-
-impl<S: BuildHasher> Tosser<S> {
-    /// Tosses as `toss_packet`, into the base in memory. A message that was refused memory is not counted.
-    pub fn toss<R: Source>(&mut self, reader: &mut R, limits: Limits) -> Result<Tally, TossFault>
-        ensures tossed { PacketStep limits self.old (R.remaining reader.old) (R.remaining reader.new) result self.new }
-        ensures device { CountsToss result (R.failures reader.old) (R.failures reader.new) }
-    {
-        match toss_packet(self.alloc, &self.links, &mut self.store, reader, limits) {
-            Ok(tally) => Ok(tally),
-            Err(stopped) => Err(fault_in(stopped)),
-        }
-    }
-}
-
-fn fault_in(stopped: StoppedToss) -> TossFault
-    ensures { result ≡ record { tally = stopped.tally; cause = cause_in stopped.stop } }
-{
-    let cause = match stopped.stop {
-        TossStepError::Packet(cause) => cause,
-        TossStepError::Store(_) => TossCause::Memory,
-    };
-    TossFault {
-        tally: stopped.tally,
-        cause,
     }
 }
 

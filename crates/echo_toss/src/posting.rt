@@ -4,13 +4,12 @@ ghost use Rattle.echo_filed.specs.Filed.{has_id, key_of};
 ghost use Rattle.disk_io.specs.Disk.{Honestly};
 ghost use Rattle.base_file.specs.Base.{Base};
 ghost use Rattle.base_store.specs.Store.{CommitsNothing, HasStoreCause, LooksOn, with_message};
-ghost use Rattle.model_steps.specs.Posting.{PostStep, post_refusal, posted};
+ghost use Rattle.model_steps.specs.Posting.{post_refusal, posted};
 ghost use Rattle.echo_toss.specs.{Bounds.IsPastBound, Refusals.IsPrepared, Refusals.draft_refusal, Stores.GoesOnOrUndoes, Stores.IsPostStop, Stores.LooksWhereRefused, Stores.post_answer};
 
 use crate::drafting::posted;
 use crate::refusing::judge;
 use crate::step_error::PostStepError;
-use crate::tosser::Tosser;
 use base_store::{Store, StoreError};
 use echo_addr::Address;
 use echo_filed::{Filed, Key};
@@ -18,7 +17,6 @@ use echo_links::LinkFile;
 use echo_text::MsgId;
 use model_steps::{Draft, PostFault, Stamp};
 use std::alloc::{AllocError, Global};
-use std::hash::BuildHasher;
 
 /// Files in the store a message of the area with this tag, whatever the case of its letters. Its id is the own address
 /// and the serial (FTS-0009), which no message of the store may have. Nothing is committed.
@@ -48,34 +46,6 @@ pub fn post_step<T: Store>(
     let (key, message) = new;
     store.file(key, message)?;
     Ok(())
-}
-
-impl<S: BuildHasher> Tosser<S> {
-    /// Files as `post_step` does, in the base in memory.
-    pub fn post(
-        &mut self,
-        tag: &[u8],
-        draft: &Draft,
-        serial: u32,
-        stamp: Stamp,
-    ) -> Result<(), PostFault>
-        ensures { PostStep self.old tag.now draft.now serial stamp result self.new }
-    {
-        match post_step(
-            self.alloc,
-            &self.links,
-            &mut self.store,
-            tag,
-            draft,
-            serial,
-            stamp,
-        ) {
-            Ok(()) => Ok(()),
-            Err(PostStepError::Refused(refusal)) => Err(refusal),
-            // A base in memory fails only where a growth is refused.
-            Err(PostStepError::Store(_)) => Err(PostFault::Memory),
-        }
-    }
 }
 
 fn prepared<T: Store>(

@@ -2,18 +2,16 @@ ghost use Rattle.std.specs.Prelude.{◌≡◌, true, IfOk, IsErrOf, MatchResult,
 ghost use Rattle.disk_io.specs.{Disk.Honestly, Runs.ChangesNothing};
 ghost use Rattle.base_file.specs.Base.{Base};
 ghost use Rattle.base_store.specs.Store.{CommitsNothing, HasStoreCause, LooksOn, all_scanned};
-ghost use Rattle.model_steps.specs.{Scanning.ScanStep, Scanning.scanned, Stamps.is_stamp};
-ghost use Rattle.echo_toss.specs.{Bounds.IsFullWhenRead, Exports.listed, Stores.GoesOnOrUndoes, Stores.IsScanStop, Stores.scan_answer};
+ghost use Rattle.model_steps.specs.{Scanning.scanned, Stamps.is_stamp};
+ghost use Rattle.echo_toss.specs.{Bounds.IsFullWhenRead, Stores.GoesOnOrUndoes, Stores.IsScanStop, Stores.scan_answer};
 
 use crate::outgoing::waiting;
 use crate::packing::packets;
 use crate::step_error::ScanStepError;
-use crate::tosser::Tosser;
 use base_store::{Store, StoreError};
 use echo_links::LinkFile;
-use model_steps::{Packet, ScanFault, Stamp, is_stamp};
+use model_steps::{Packet, Stamp, is_stamp};
 use std::alloc::Global;
-use std::hash::BuildHasher;
 
 /// Makes the packets of the store's waiting messages: one for each address that gets some of them, ascending,
 /// with its messages in order of filing. Then no message waits. Nothing is committed.
@@ -40,20 +38,6 @@ pub fn scan_step<T: Store>(
     let packets = scanned(alloc, links, store, stamp)?;
     store.move_to_end()?;
     Ok(packets)
-}
-
-impl<S: BuildHasher> Tosser<S> {
-    /// Makes the packets as `scan_step` does, of the base in memory. Then no message waits.
-    pub fn scan(&mut self, stamp: Stamp) -> Result<Vec<Packet>, ScanFault>
-        ensures { ScanStep self.old stamp (listed result) self.new }
-    {
-        match scan_step(self.alloc, &self.links, &mut self.store, stamp) {
-            Ok(packets) => Ok(packets),
-            Err(ScanStepError::BadStamp) => Err(ScanFault::BadStamp),
-            // A base in memory fails only where a growth is refused.
-            Err(ScanStepError::Store(_)) => Err(ScanFault::Memory),
-        }
-    }
 }
 
 fn scanned<T: Store>(

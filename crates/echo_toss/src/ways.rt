@@ -1,12 +1,12 @@
 //! The ways on which messages came. The messages of an area with the same sender, SEEN-BY and PATH have the same
 //! receivers, and their copies have the same lists.
-ghost use Rattle.std.specs.Prelude.{◌≡◌, false, true, ◌++◌, ◌∷◌, [], IsTrue, IfOk, IfSome, MatchOption, map};
+ghost use Rattle.std.specs.Prelude.{◌≡◌, false, true, ◌++◌, ◌∷◌, [], All, IsNone, IsTrue, IfOk, IfSome, map};
 ghost use Rattle.std.specs.List.{flat_map};
 ghost use Rattle.echo_addr.specs.Address.{net_node_of};
 ghost use Rattle.echo_filed.specs.Sets.{address_set, entry_set};
 ghost use Rattle.echo_text.specs.{Lines.area_word, Echo.ended};
 ghost use Rattle.model_steps.specs.Scanning.{exported, targets};
-ghost use Rattle.echo_toss.specs.{Exports.has_some, Ways.CameOn, Ways.IsWay, Ways.list_lines};
+ghost use Rattle.echo_toss.specs.{Exports.has_some, Ways.CameOn, Ways.CameOnOne, Ways.IsWay, Ways.list_lines};
 
 use crate::outgoing::{links_of, targets};
 use crate::sets::{entry_set, entry_union};
@@ -27,28 +27,47 @@ pub(crate) struct Way {
     pub(crate) lines: Items<u8>,
 }
 
-/// The way of the message, if it has receivers. The way of the message before it often serves.
+/// How many ways a scan keeps.
+const MOST_WAYS: usize = 16;
+
+/// The number of the message's way, if it has receivers. A way that is not among those kept becomes the last of them.
 #[tactic(auto, using(crate::proofs::SameWay::has_receivers))]
 pub(crate) fn way_of(
     alloc: Global,
     links: &LinkFile,
-    last: Option<Way>,
+    ways: &mut Vec<Way>,
     message: &Filed,
-) -> Result<Option<Way>, AllocError>
-    requires { IfSome last (IsWay links.now) }
-    ensures none { IfOk result (λ found. MatchOption found (has_some (address_set (targets links.now message.now)) ≡ false) (λ way. CameOn way message.now)) }
-    ensures way { IfOk result (λ found. IfSome found (IsWay links.now)) }
+) -> Result<Option<usize>, AllocError>
+    requires { All (IsWay links.now) ways.old.items }
+    ensures none { IfOk result (λ found. IsNone found → has_some (address_set (targets links.now message.now)) ≡ false) }
+    ensures found { IfOk result (λ found. IfSome found (CameOnOne ways.new.items message.now)) }
+    ensures ways { All (IsWay links.now) ways.new.items }
 {
-    if let Some(way) = last {
-        if came_on(&way, message) {
-            return Ok(Some(way));
-        }
+    if let Some(at) = place_of(ways, message) {
+        return Ok(Some(at));
     }
     let receivers = targets(alloc, links, message)?;
     if receivers.is_empty() {
         return Ok(None);
     }
-    Ok(Some(new_way(alloc, links, message, receivers)?))
+    let way = new_way(alloc, links, message, receivers)?;
+    if ways.len() >= MOST_WAYS {
+        ways.clear();
+    }
+    let at = ways.len();
+    ways.push(way)?;
+    Ok(Some(at))
+}
+
+fn place_of(ways: &[Way], message: &Filed) -> Option<usize>
+    ensures { IfSome result (CameOnOne ways.now message.now) }
+{
+    for (i, way) in ways.iter().enumerate() {
+        if came_on(way, message) {
+            return Some(i);
+        }
+    }
+    None
 }
 
 fn came_on(way: &Way, message: &Filed) -> bool

@@ -1,12 +1,9 @@
 -- One station and a system by itself with the same contents.
-use Rattle.std.proofs.Common.{◌⊎◌, inl, inr, sym, subst, ℕ, List, [], ◌∷◌, ◌++◌, Ok, arith}
-use Rattle.echo_addr.specs.declared.address.Address.{Address}
-use Rattle.model_graph.{specs.Walk.Among, proofs.Members.{Among-append_cases, Among-append_left, Among-append_right}}
-use Rattle.echo_packet.specs.Message.{Message}
-use Rattle.echo_links.specs.{Links.LinkFile, LinkLines.LinksOf}
+use Rattle.{std.proofs.Common.{◌⊎◌, inl, inr, sym, subst, ℕ, List, [], ◌∷◌, ◌++◌, Ok, arith}, echo_addr.specs.declared.address.Address.Address}
+use Rattle.{model_graph.{specs.Walk.Among, proofs.Members.{Among-append_cases, Among-append_left, Among-append_right}}, echo_packet.specs.Message.Message}
+use Rattle.{echo_links.specs.{Links.LinkFile, LinkLines.LinksOf}, law_stations.proofs.Tosses.{IsInFront, IsTossedBy, more-events}}
 use Rattle.model_run.{specs.{Lone.{AreOfPackets, LoneEvent, LoneSystem, TossHere, after_all_lone, lone_run}, Run.Run}, proofs.Filings.run-append}
-use Rattle.law_stations.specs.{Agreement.Agrees, LoneStations.LoneStation, LoneStations.lone_station_at_first}
-use Rattle.law_stations.proofs.{EachEvent.first-agrees, Tosses.IsInFront, Tosses.IsTossedBy, Tosses.more-events}
+use Rattle.law_stations.{specs.{Agreement.Agrees, LoneStations.{LoneStation, lone_station_at_first}}, proofs.EachEvent.first-agrees}
 
 -- the run of the system alone
 abbrev pub run_alone : LoneSystem → Run

@@ -1,17 +1,16 @@
 -- A new message is in order over crashes, from any disks on.
 use Rattle.std.proofs.Common.{◌≡◌, inl, inr, refl, sym, subst, ap, ◌∙◌, ℕ, zero, suc, ◌+◌, ◌≤◌, ◌<◌, arith, List, [], ◌∷◌, ◌++◌, filter, length, map, Option, Some, None}
-use Rattle.std.proofs.lemmas.{Bool.cond-false, Bool.cond-true, Bool.ltb-false, Bool.ltb-true, Bool.not-true, List.length-append, List.length-map}
-use Rattle.std.specs.Prelude.{Bool, true, false, not, if◌then◌else◌}
-use Rattle.cmd_status.specs.Inputs.{AreLinkFiles}
-use Rattle.model_graph.specs.{Walk.Among, Cycle.Polygons}
-use Rattle.echo_links.specs.Links.{LinkFile, upper}
-use Rattle.echo_filed.specs.{declared.key.Key.Key, Filed.Filed}
-use Rattle.model_steps.specs.declared.packet.Packet.{Packet}
-use Rattle.model_run.specs.{Orderly.sent_count, Orderly.tag_of, Run.nth, Tidy.Joined, Tidy.lists}
-use Rattle.model_run.proofs.{Lists.and-from, Lists.and-parts, Lists.filter-no, Lists.filter-yes, Lists.not_both, Lists.nth-append, Lists.yes_or_no, HarmLists.among-nth, HarmLists.nth-map, Targets.none_some, Targets.some_same}
+use Rattle.std.proofs.lemmas.{Bool.{cond-false, cond-true, ltb-false, ltb-true, not-true}, List.{length-append, length-map}}
+use Rattle.{std.specs.Prelude.{Bool, true, false, not, if◌then◌else◌}, cmd_status.specs.Inputs.AreLinkFiles, model_graph.specs.{Walk.Among, Cycle.Polygons}}
+use Rattle.{echo_links.specs.Links.{LinkFile, upper}, echo_filed.specs.{declared.key.Key.Key, Filed.Filed}, model_steps.specs.declared.packet.Packet.Packet}
+use Rattle.model_run.{specs.{Orderly.{sent_count, tag_of}, Run.nth, Tidy.{Joined, lists}}, proofs.Targets.{none_some, some_same}}
+use Rattle.model_run.proofs.{Lists.{and-from, and-parts, filter-no, filter-yes, not_both, nth-append, yes_or_no}, HarmLists.{among-nth, nth-map}}
 use Rattle.law_stations.specs.AnyDisks.{HeadlineFromAnyDisks, KeyHasSettled, KeyInOrderOverCrashes, all_packets, disks_at, is_below, waits_for_name}
-use Rattle.law_stations.specs.{AnyNets.IsNewTo, AnyNets.IsSomeNet, AnyNets.KeyInOrder, AnyNets.KeyIsNotLost, AnyNets.KeyIsSettled, AnyNets.links_at, AnyNets.net_at, Commands.CommandEvent, Disks.Disks, Disks.StagingFile, Disks.cursors, InOrder.ReadsAs, InOrder.StationHolds, Nets.Net, Nets.Paired, Nets.Station, OverCrashes.HasNet, OverCrashes.IsLikeEvent, Stopping.MayHappenAll}
-use Rattle.law_stations.proofs.{Counting.IsItem, Counting.below, Counting.below-step, Counting.times, Counting.waits, AnyNets.in-order as key-in-order, AnyNets.not-lost as key-not-lost, AnyNets.packets-read, EachCommand.crashes-from, Headline.checked, Pairs.paired-back, Shown.holds-too, Shown.sent-less, Shown.unchanged-too, Tracking.IsTagged, Tracking.Tracks}
+use Rattle.law_stations.specs.{AnyNets.{IsNewTo, IsSomeNet, KeyInOrder, KeyIsNotLost, KeyIsSettled, links_at, net_at}, Commands.CommandEvent}
+use Rattle.law_stations.specs.{Disks.{Disks, StagingFile, cursors}, InOrder.{ReadsAs, StationHolds}, Nets.{Net, Paired, Station}}
+use Rattle.law_stations.{specs.{OverCrashes.{HasNet, IsLikeEvent}, Stopping.MayHappenAll}, proofs.Counting.{IsItem, below, below-step, times, waits}}
+use Rattle.law_stations.proofs.{AnyNets.{in-order as key-in-order, not-lost as key-not-lost, packets-read}, EachCommand.crashes-from, Headline.checked}
+use Rattle.law_stations.proofs.{Pairs.paired-back, Shown.{holds-too, sent-less, unchanged-too}, Tracking.{IsTagged, Tracks}}
 
 -- the indexes of the packets with names
 abbrev up : ℕ → List (List ℕ) → List ℕ

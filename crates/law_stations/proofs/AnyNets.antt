@@ -1,17 +1,16 @@
 -- A new message of a checked area is in order, from any state of a net of stations on.
-use Rattle.std.proofs.Common.{◌≡◌, ◌⊎◌, inl, inr, refl, sym, subst, ap, ◌∙◌, ℕ, ◌≤◌, List, [], ◌∷◌, length, map, Some}
-use Rattle.std.specs.{Prelude.IsTrue, Prelude.is_none}
-use Rattle.cmd_status.specs.{Inputs.AreLinkFiles}
-use Rattle.model_graph.specs.{Walk.Among, Walk.Different, Cycle.Polygons}
-use Rattle.echo_packet.specs.Message.{IsMessage}
-use Rattle.echo_links.specs.Links.{LinkFile, has_area, upper}
-use Rattle.echo_filed.specs.{declared.key.Key.Key, Filed.Filed}
-use Rattle.base_file.specs.Base.{Base, IsBase}
-use Rattle.model_steps.specs.declared.packet.Packet.{Packet}
-use Rattle.model_run.specs.{Orderly.FiledUnchanged, Orderly.count, Orderly.sent_count, Orderly.tag_of, AnyState.HasSettled, AnyState.IsNew, AnyState.IsNotLost, AnyState.IsOrderly, Run.Run, Run.System, Run.after_events, Run.nth, States.IsState, Tidy.Joined, Tidy.Tidy, Tidy.lists}
-use Rattle.model_run.proofs.{Lists.nth-among, Lists.Among-filter_from, Lists.Among-filter_to, Lists.Among-flat_map_from, Lists.Among-flat_map_to, AnyState.new-not_lost, AnyState.new-orderly, HarmLists.among-nth, HarmLists.nth-middle, States.any-state, States.each-of, States.later-state, Targets.is-none, TosserLaws.the_laws}
-use Rattle.law_stations.specs.{AnyNets.HeadlineFromAnyState, AnyNets.IsNewTo, AnyNets.IsSomeNet, AnyNets.KeyInOrder, AnyNets.KeyIsNotLost, AnyNets.KeyIsSettled, AnyNets.links_at, AnyNets.net_at, AnyNets.own_of, Agreement.Agrees, Agreement.HasSystem, Agreement.IsPacketFile, Agreement.file_address, Commands.CommandEvent, Commands.Happen, InOrder.HasUnchanged, InOrder.ReadsAs, InOrder.WasPurged, Nets.Net, Nets.Paired, Nets.Station}
-use Rattle.law_stations.proofs.{EachEvent.LedAll, EachEvent.led-all, Headline.all-read, Headline.checked, Pairs.paired-among, Pairs.paired-back, Places.addresses-of, Sound.is-unchanged, Sound.reads, Sound.represented, Systems.file-fits, Systems.says-so, Tracking.paired-so, Unpurged.IsAsFiled}
+use Rattle.std.{proofs.Common.{◌≡◌, ◌⊎◌, inl, inr, refl, sym, subst, ap, ◌∙◌, ℕ, ◌≤◌, List, [], ◌∷◌, length, map, Some}, specs.Prelude.{IsTrue, is_none}}
+use Rattle.{cmd_status.specs.Inputs.AreLinkFiles, model_graph.specs.{Walk.{Among, Different}, Cycle.Polygons}, echo_packet.specs.Message.IsMessage}
+use Rattle.{echo_links.specs.Links.{LinkFile, has_area, upper}, echo_filed.specs.{declared.key.Key.Key, Filed.Filed}, base_file.specs.Base.{Base, IsBase}}
+use Rattle.{model_steps.specs.declared.packet.Packet.Packet, model_run.{specs.Orderly.{FiledUnchanged, count, sent_count, tag_of}, proofs.TosserLaws.the_laws}}
+use Rattle.model_run.specs.{AnyState.{HasSettled, IsNew, IsNotLost, IsOrderly}, Run.{Run, System, after_events, nth}, States.IsState}
+use Rattle.model_run.{specs.Tidy.{Joined, Tidy, lists}, proofs.Lists.{nth-among, Among-filter_from, Among-filter_to, Among-flat_map_from, Among-flat_map_to}}
+use Rattle.model_run.proofs.{AnyState.{new-not_lost, new-orderly}, HarmLists.{among-nth, nth-middle}, States.{any-state, each-of, later-state}, Targets.is-none}
+use Rattle.law_stations.specs.AnyNets.{HeadlineFromAnyState, IsNewTo, IsSomeNet, KeyInOrder, KeyIsNotLost, KeyIsSettled, links_at, net_at, own_of}
+use Rattle.law_stations.specs.{Agreement.{Agrees, HasSystem, IsPacketFile, file_address}, Commands.{CommandEvent, Happen}}
+use Rattle.law_stations.{specs.{InOrder.{HasUnchanged, ReadsAs, WasPurged}, Nets.{Net, Paired, Station}}, proofs.EachEvent.{LedAll, led-all}}
+use Rattle.law_stations.proofs.{Headline.{all-read, checked}, Pairs.{paired-among, paired-back}, Places.addresses-of, Sound.{is-unchanged, reads, represented}}
+use Rattle.law_stations.proofs.{Systems.{file-fits, says-so}, Tracking.paired-so, Unpurged.IsAsFiled}
 
 -- a system of each station; what its base has counts as filed
 abbrev system_of : LinkFile → Station → System

@@ -1,11 +1,8 @@
 -- A toss from any readers is a toss from their contents.
-use Rattle.std.proofs.Common.{◌≡◌, ◌∙◌, refl, sym, inl, inr, Bool, List, [], ◌∷◌, Option, None, Ok, Err, arith}
-use Rattle.cmd_status.specs.{Devices.Device, Devices.Output, declared.fault.Fault.Fault}
-use Rattle.base_file.specs.Base.{Base}
-use Rattle.echo_links.specs.Links.{LinkFile}
-use Rattle.echo_packet.specs.declared.limits.Limits.{Limits}
-use Rattle.echo_toss.specs.PacketsIn.{state_in}
-use Rattle.cmd_store.specs.{Coming.Coming, Coming.Opens, TossRuns.TossesEachBy, TossRuns.TossesFileBy, TossRuns.run_begun, TossedPacket.TossRun, TossedPacket.TossesPacketBy, Tossed.Tosses, Tossed.TossesTo}
+use Rattle.{std.proofs.Common.{◌≡◌, ◌∙◌, refl, sym, inl, inr, Bool, List, [], ◌∷◌, Option, None, Ok, Err, arith}, cmd_status.specs.Devices.{Device, Output}}
+use Rattle.{cmd_status.specs.declared.fault.Fault.Fault, base_file.specs.Base.Base, echo_links.specs.Links.LinkFile}
+use Rattle.{echo_packet.specs.declared.limits.Limits.Limits, echo_toss.specs.PacketsIn.state_in, cmd_store.specs.Coming.{Coming, Opens}}
+use Rattle.cmd_store.specs.{TossRuns.{TossesEachBy, TossesFileBy, run_begun}, TossedPacket.{TossRun, TossesPacketBy}, Tossed.{Tosses, TossesTo}}
 use Rattle.law_stations.specs.Commands.{TossesAll, itself}
 
 module _ {R : Type 0} (honest : Type 0) (is_honest : honest) (device : R → Device) (noting : Bool) where

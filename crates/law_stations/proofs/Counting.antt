@@ -1,7 +1,6 @@
 -- The number of times an index is in a list, and sums over picked items of a list.
 use Rattle.std.proofs.Common.{◌≡◌, inl, inr, refl, subst, ap, ℕ, zero, suc, ◌+◌, ◌≤◌, arith, List, [], ◌∷◌, ◌++◌, length, Option, Some, None}
-use Rattle.model_graph.specs.Walk.{Among, Different}
-use Rattle.model_run.{specs.Run.{change, nth}, proofs.{Lists.nth-changed, Targets.{none_some, some_same}}}
+use Rattle.{model_graph.specs.Walk.{Among, Different}, model_run.{specs.Run.{change, nth}, proofs.{Lists.nth-changed, Targets.{none_some, some_same}}}}
 use Rattle.law_stations.specs.Nets.{Paired}
 
 -- 1 if two numbers are the same, else 0

@@ -1,13 +1,11 @@
 -- For any stops of one station's commands, its disks agree with a net without stops inside a command.
 use Rattle.std.proofs.Common.{◌≡◌, inl, inr, refl, sym, subst, ap, ◌∙◌, ℕ, zero, suc, append-nil, List, [], ◌∷◌, length, map, take, arith}
-use Rattle.model_graph.specs.Walk.{Among}
-use Rattle.model_steps.specs.SystemState.{SystemState}
-use Rattle.echo_toss.specs.PacketsIn.{state_in}
-use Rattle.model_run.specs.Run.{change}
-use Rattle.cmd_store.specs.Coming.{Coming, Fails, Holds, Unknown}
-use Rattle.law_stations.specs.{Commands.Command, Commands.CommandEvent, Commands.Happens, Commands.Post, Commands.Purge, Commands.Scan, Disks.cursor_of, OverCrashes.IsLike, Stopping.PartialEffect, Nets.Net, Nets.Paired, Nets.Station, Nets.with_base, Nets.with_left, LoneDisks.LoneDisks, LoneDisks.MayHappenAlone, LoneDisks.MayHappenAllAlone, LoneDisks.on_net, LoneDisks.under_names}
+use Rattle.{model_graph.specs.Walk.Among, model_steps.specs.SystemState.SystemState, echo_toss.specs.PacketsIn.state_in, model_run.specs.Run.change}
+use Rattle.{cmd_store.specs.Coming.{Coming, Fails, Holds, Unknown}, law_stations.specs.Commands.{Command, CommandEvent, Happens, Post, Purge, Scan}}
+use Rattle.law_stations.specs.{Disks.cursor_of, OverCrashes.IsLike, Stopping.PartialEffect, Nets.{Net, Paired, Station, with_base, with_left}}
+use Rattle.law_stations.specs.LoneDisks.{LoneDisks, MayHappenAlone, MayHappenAllAlone, on_net, under_names}
 use Rattle.law_stations.specs.LoneStations.{AreAnyFiles, HappenAlone, HappensAlone, LoneCommand, LoneStation, NothingCame, PostAlone, PurgeAlone, ScanAlone, TossAny, TossesAny}
-use Rattle.law_stations.proofs.{FileRuns.IsPartly, FileRuns.TossedFiles, FileRuns.tossed-all, FileRuns.wholes, EachCommand.followed, Tracking.Tracks, Tracking.still}
+use Rattle.law_stations.proofs.{FileRuns.{IsPartly, TossedFiles, tossed-all, wholes}, EachCommand.followed, Tracking.{Tracks, still}}
 
 -- a toss may have only the first of its files
 abbrev pub IsLikeAlone : LoneCommand → LoneCommand → Type 0

@@ -1,16 +1,14 @@
 -- Command events are events of a run.
 use Rattle.std.proofs.Common.{◌≡◌, ◌⊎◌, inl, inr, refl, sym, subst, ap, ◌∙◌, ℕ, ◌==◌, arith, true, List, [], ◌∷◌, ◌++◌, map, Option, Some, None}
-use Rattle.std.{proofs.lemmas.Bool.{eqb-false, eqb-true}, specs.Prelude.{Bool, false, if◌then◌else◌}}
-use Rattle.model_graph.specs.Walk.{Different}
-use Rattle.echo_links.specs.Links.{LinkFile}
-use Rattle.model_run.specs.{Run.Run, Run.System, Run.after_events, Run.change, Run.fresh, Run.nth, Run.posting_at, Run.purging_at, Run.scanning, Run.scanning_at, Run.start, Event.Posting, Event.Purging, Event.RunEvent, Event.Scanning}
-use Rattle.model_run.proofs.{Lists.yes_or_no, WholeRuns.fresh-empty, WholeRuns.fresh-files, HarmSteps.after-append}
-use Rattle.model_steps.specs.{declared.stamp.Stamp.Stamp, Posting.posting, Scanning.scanned, Stamps.is_stamp}
-use Rattle.cmd_status.specs.Inputs.{AreLinkFiles}
-use Rattle.cmd_store.specs.Drafts.{draft_given}
-use Rattle.law_stations.specs.{Agreement.Agrees, Agreement.AreEventsOf, Agreement.AreEventsOfAll, Agreement.EventIsEvents, Agreement.EventsAreARun, Agreement.HasSystem, Agreement.file_address, Agreement.own_address, InOrder.WasPurged, Nets.Net, Nets.Paired, Nets.first_net, Nets.new_station}
+use Rattle.{std.{proofs.lemmas.Bool.{eqb-false, eqb-true}, specs.Prelude.{Bool, false, if◌then◌else◌}}, model_graph.specs.Walk.Different}
+use Rattle.{echo_links.specs.Links.LinkFile, cmd_status.specs.Inputs.AreLinkFiles, cmd_store.specs.Drafts.draft_given}
+use Rattle.model_run.specs.Run.{Run, System, after_events, change, fresh, nth, posting_at, purging_at, scanning, scanning_at, start}
+use Rattle.model_run.{specs.Event.{Posting, Purging, RunEvent, Scanning}, proofs.{Lists.yes_or_no, WholeRuns.{fresh-empty, fresh-files}}}
+use Rattle.{model_run.proofs.HarmSteps.after-append, model_steps.specs.{declared.stamp.Stamp.Stamp, Posting.posting, Scanning.scanned, Stamps.is_stamp}}
+use Rattle.law_stations.specs.Agreement.{Agrees, AreEventsOf, AreEventsOfAll, EventIsEvents, EventsAreARun, HasSystem, file_address, own_address}
+use Rattle.law_stations.{specs.{InOrder.WasPurged, Nets.{Net, Paired, first_net, new_station}}, proofs.Unpurged.{AsFiledAt, change-as_filed, filing-as_filed}}
 use Rattle.law_stations.specs.Commands.{Command, CommandEvent, Happen, Leads, Post, Purge, Scan, Toss}
-use Rattle.law_stations.proofs.{OfEvents.post-agrees, OfEvents.purge-agrees, OfEvents.scan-agrees, OfToss.toss-agrees, Places.addresses-of, Places.addresses-stay, Unpurged.AsFiledAt, Unpurged.change-as_filed, Unpurged.filing-as_filed}
+use Rattle.law_stations.proofs.{OfEvents.{post-agrees, purge-agrees, scan-agrees}, OfToss.toss-agrees, Places.{addresses-of, addresses-stay}}
 
 -- A command ended well: its events. It keeps the messages of each system as they were filed, unless it purges it.
 record Led (command : Command) (i : ℕ) (new : Net) (run : Run) : Type 0 where

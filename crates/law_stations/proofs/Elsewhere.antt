@@ -1,10 +1,8 @@
 -- A command changes only the base of its station.
-use Rattle.std.proofs.Common.{◌≡◌, ◌≢◌, inl, inr, refl, ap, ◌∙◌, ℕ, zero, suc, Bool, List, [], ◌∷◌, arith}
-use Rattle.base_file.specs.Base.{Base}
-use Rattle.model_steps.specs.declared.stamp.Stamp.{Stamp}
-use Rattle.model_run.specs.Run.{change, nth}
-use Rattle.base_store.specs.Store.{purged}
-use Rattle.law_stations.specs.{Commands.Command, Commands.CommandEvent, Commands.Post, Commands.Purge, Commands.Scan, Commands.Toss, Nets.Net, Nets.with_base, Disks.Disks, Disks.naming, Stopping.EndsOne, Stopping.EndsSome, Stopping.PartialEffect, Stopping.MayHappen, Stopping.ScansFar, Stopping.Writes}
+use Rattle.{std.proofs.Common.{◌≡◌, ◌≢◌, inl, inr, refl, ap, ◌∙◌, ℕ, zero, suc, Bool, List, [], ◌∷◌, arith}, base_file.specs.Base.Base}
+use Rattle.{model_steps.specs.declared.stamp.Stamp.Stamp, model_run.specs.Run.{change, nth}, base_store.specs.Store.purged}
+use Rattle.law_stations.specs.{Commands.{Command, CommandEvent, Post, Purge, Scan, Toss}, Nets.{Net, with_base}, Disks.{Disks, naming}}
+use Rattle.law_stations.specs.Stopping.{EndsOne, EndsSome, PartialEffect, MayHappen, ScansFar, Writes}
 
 pub change-other : {X : Type 0} (f : X → X) (i j : ℕ) (xs : List X) → j ≢ i → nth j (change i f xs) ≡ nth j xs
 change-other f i j [] other = refl

@@ -1,9 +1,7 @@
 -- The staging files of a station are finished, one after another.
 use Rattle.std.proofs.Common.{arith, ◌≡◌, ◌≢◌, inl, inr, ⊎_elim, ◌∙◌, ℕ, zero, suc, ◌<◌, ◌≤◌, Bool, List, [], ◌∷◌, ◌++◌, append-nil, append_assoc, refl, sym, subst, ap}
-use Rattle.std.proofs.lemmas.Bool.{cases_eq, cases_lt}
-use Rattle.model_graph.{specs.Walk.Among, proofs.Floods.Among-push_cases}
-use Rattle.law_stations.specs.{Nets.Net, CanEnd.CanEnd, Disks.StagingFile, Disks.HasCursor, Disks.naming, Stopping.EndsOne, Stopping.HasNoneStaged}
-use Rattle.law_stations.proofs.Whole.{disks_with}
+use Rattle.{std.proofs.lemmas.Bool.{cases_eq, cases_lt}, model_graph.{specs.Walk.Among, proofs.Floods.Among-push_cases}, law_stations.specs.Nets.Net}
+use Rattle.law_stations.{specs.{CanEnd.CanEnd, Disks.{StagingFile, HasCursor, naming}, Stopping.{EndsOne, HasNoneStaged}}, proofs.Whole.disks_with}
 
 pub cursor-stays : (net : Net) (i cursor : ℕ) (bytes : List ℕ) (named : Bool) → HasCursor net i cursor → HasCursor (naming net bytes named) i cursor
 cursor-stays net i cursor bytes named has = grind arith

@@ -1,14 +1,12 @@
 -- The base that each command makes is that of a command event of a net.
 use Rattle.std.proofs.Common.{◌≡◌, inl, inr, ⊎_elim, refl, sym, ap, subst, arith, Bool, true, false, ℕ, List, [], Ok, Some, length, take}
-use Rattle.std.proofs.lemmas.List.{take_all}
-use Rattle.base_file.specs.Base.{Base}
-use Rattle.echo_links.specs.{Links.LinkFile, LinkLines.LinksOf}
-use Rattle.cmd_store.specs.{declared.drafting.NewMessage.NewMessage, declared.answering.Answer.Answer, Coming.Coming, Serials.with_serial, Drafts.draft_given, declared.letter.Letter.Letter, declared.mailed.MailWords.MailWords, MailPosted.Mails, FreeSerial.PostsAs, Posted.Posts, Purged.HoldsOrPurges, Purged.Purges, Replied.Replies}
-use Rattle.model_run.specs.Run.{change, nth}
-use Rattle.model_steps.specs.Posting.{posted}
-use Rattle.base_store.specs.Store.{purged}
-use Rattle.law_stations.specs.{Commands.Command, Commands.IsPacketAt, Commands.Post, Commands.Purge, Commands.Toss, Commands.TossesAll, Commands.whole_of, Nets.Paired, Nets.Station, Nets.with_base, Nets.with_left, Nets.with_posting, Nets.with_tossed, Kinds.IsPurge, Kinds.IsToss, Disks.Disks, DiskKinds.IsMail, DiskKinds.IsPostAs, DiskKinds.IsReplyAs}
-use Rattle.law_stations.proofs.Leading.{LeadsTo, MadeOrHeld}
+use Rattle.{std.proofs.lemmas.List.take_all, base_file.specs.Base.Base, echo_links.specs.{Links.LinkFile, LinkLines.LinksOf}}
+use Rattle.cmd_store.specs.{declared.{drafting.NewMessage.NewMessage, answering.Answer.Answer}, Coming.Coming, Serials.with_serial, Drafts.draft_given}
+use Rattle.cmd_store.specs.{declared.{letter.Letter.Letter, mailed.MailWords.MailWords}, MailPosted.Mails, FreeSerial.PostsAs, Posted.Posts}
+use Rattle.{cmd_store.specs.{Purged.{HoldsOrPurges, Purges}, Replied.Replies}, model_run.specs.Run.{change, nth}, model_steps.specs.Posting.posted}
+use Rattle.{base_store.specs.Store.purged, law_stations.specs.Commands.{Command, IsPacketAt, Post, Purge, Toss, TossesAll, whole_of}}
+use Rattle.law_stations.specs.{Nets.{Paired, Station, with_base, with_left, with_posting, with_tossed}, Kinds.{IsPurge, IsToss}, Disks.Disks}
+use Rattle.law_stations.{specs.DiskKinds.{IsMail, IsPostAs, IsReplyAs}, proofs.Leading.{LeadsTo, MadeOrHeld}}
 
 module _ (station : Station) (file : LinkFile) (i : ℕ) (d : Disks) (there : nth i d.net.stations ≡ Some station) (says : LinksOf station.links (Ok file)) where
   pub posting : (IsCommand : Command → Type 0) (words : NewMessage) (body : List ℕ) (next : Base) → IsCommand (Post words body) → Posts file words body station.base next → LeadsTo IsCommand i d next

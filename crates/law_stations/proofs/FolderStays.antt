@@ -6,7 +6,7 @@ use Rattle.disk_atomic.specs.{Finishing.IsOfLeft, ListStaged.IsNameByte, Staging
 use Rattle.model_steps.specs.PacketFiles.{PacketFile}
 use Rattle.station_scan.specs.{Left.IsEnded, Left.IsEndedAt, Left.IsLeftOf, Publishing.IsOnDisk, Scanning.AreSentOut, Sending.IsAtItsPath, Sending.IsStagingOn, Sends.IsOfThese}
 use Rattle.law_stations.specs.PacketNames.{ArePathsOnDisk, IsPacketName}
-use Rattle.law_stations.proofs.PacketNames.{long, no-trial, one-has}
+use Rattle.{station_scan.proofs.Lists.among as one_of, law_stations.proofs.PacketNames.{long, no-trial}}
 
 -- the path that a scan tries is no staging path of a packet, whatever the system
 staged-no-trial : (outbound own other name : List ℕ) → All IsNameByte name → 1 < length name → staging_path (outbound ++ name) other ≡ staging_path outbound own → ⊥
@@ -37,9 +37,9 @@ module _ (Own : List ℕ → Type 0) (outbound own : List ℕ) (Comes : Files �
 
   -- what was on the disk stood, or ended with the leftover packets
   stood-or-ended : (m : List ℕ) → IsOnDisk old m → (IsOnDisk old m × (IsOfLeft found m → ⊥)) ⊎ IsEndedAt cursor found sent.between m
-  stood-or-ended m on = elim (one-has (λ (l : Left). l.staging.now) m found) [
+  stood-or-ended m on = elim (one_of (λ (l : Left). l.staging.now) m found) [
     | inl (l, has, is) ↦ inr (l, has, inl is)
-    | inr none_staging ↦ elim (one-has (λ (l : Left). l.path.now) m found) [
+    | inr none_staging ↦ elim (one_of (λ (l : Left). l.path.now) m found) [
       | inl (l, has, is) ↦ inr (left-ended m (l, has, inr is))
       | inr none_path ↦ inl (on, λ of.
           ⊎_elim (λ (e : m ≡ of.0.staging.now). All-contains (λ (l : Left). m ≢ l.staging.now) found of.0 none_staging of.1 e)
@@ -48,9 +48,9 @@ module _ (Own : List ℕ → Type 0) (outbound own : List ℕ) (Comes : Files �
   ]
 
   still-on : (m : List ℕ) → (Own m → ⊥) → (m ≡ staging_path outbound own → ⊥) → IsOnDisk old m → IsOnDisk new m
-  still-on m off not_trial on = elim (one-has (λ (f : PacketFile). outbound ++ f.name) m files) [
+  still-on m off not_trial on = elim (one_of (λ (f : PacketFile). outbound ++ f.name) m files) [
     | inl (f, has, is) ↦ (let at = All-contains (IsAtItsPath outbound new) files f sent.packets has in subst (λ (p : List ℕ). IsOnDisk new p) (sym is) (at.named, at.flushed))
-    | inr no_path ↦ elim (one-has (λ (f : PacketFile). staging_path (outbound ++ f.name) own) m files) [
+    | inr no_path ↦ elim (one_of (λ (f : PacketFile). staging_path (outbound ++ f.name) own) m files) [
       | inl (f, has, is) ↦ subst (λ (p : List ℕ). IsOnDisk new p) (sym is) (All-contains (IsStagingOn outbound own new) files f sent.settled has)
       | inr no_staging ↦ sent.still m (not-these no_path no_staging) (stood-or-ended m on)
     ]

@@ -1,19 +1,14 @@
 -- A station's folder of packets stays as the net has it.
-use Rattle.std.proofs.Common.{◌≡◌, ◌≢◌, ◌⊎◌, inl, inr, ⊎_elim, ◌∙◌, refl, sym, subst, ap, append-nil, append_assoc, arith, ℕ, zero, suc, Bool, true, false, List, [], ◌∷◌, ◌++◌, codes, length, map, take, Option, Some, None, Ok}
-use Rattle.base_file.specs.Base.{Base}
-use Rattle.base_store.specs.Store.{purged}
-use Rattle.cmd_store.specs.declared.drafting.NewMessage.{NewMessage}
-use Rattle.model_steps.specs.declared.stamp.Stamp.{Stamp}
-use Rattle.model_graph.{specs.Walk.Among, proofs.Members.{Among-append_cases, Among-append_left}}
-use Rattle.disk_io.specs.Disk.{DiskState, Files}
-use Rattle.disk_atomic.specs.StagingPaths.{dotted, staging_path}
-use Rattle.echo_links.specs.LinkLines.{LinksOf}
-use Rattle.echo_toss.specs.PacketsIn.{state_in}
-use Rattle.model_run.{specs.Run.{change, nth}, proofs.{HarmLists.nth-changed as changed-there, Targets.some_same}}
-use Rattle.station.specs.Place.{Place}
-use Rattle.law_stations.specs.{Asked.Asked, Asked.AsksMail, Asked.AsksPost, Asked.AsksPurge, Asked.AsksReply, Asked.AsksToss, Asked.IsAsked, DiskKinds.IsPostAs, Commands.Command, Commands.Post, Commands.Purge, Commands.Scan, Commands.Toss, Commands.Tosses, Disks.Disks, Disks.StagingFile, Nets.Net, Nets.Station, Nets.with_base}
-use Rattle.law_stations.specs.{OnDisks.LeavesElsewhere, PacketNames.AreOfNet, PacketNames.IsFolderIn, PacketNames.IsPacketName, PacketNames.IsToName, PacketNames.ShowsFolder, Seats.IsBelow, Steps.IsAllOnDisk, Steps.MayLead, Stopping.EndsOne, Stopping.EndsSome, Stopping.PartialEffect, Stopping.ScansFar, Stopping.staging_of}
-use Rattle.law_stations.proofs.{FileRuns.tossed-all, FileRuns.wholes, Others.tossed-cursor, PacketNames.ends-keep, PacketNames.still-waits}
+use Rattle.std.proofs.Common.{◌≡◌, ◌≢◌, inl, inr, ◌∙◌, refl, sym, subst, ap, append-nil, append_assoc, ℕ, zero, suc, Bool, true, false, List, [], ◌∷◌, ◌++◌, codes, length, map, take, Option, Some, None, Ok}
+use Rattle.{base_file.specs.Base.Base, base_store.specs.Store.purged, cmd_store.specs.declared.drafting.NewMessage.NewMessage}
+use Rattle.{model_steps.specs.declared.stamp.Stamp.Stamp, model_graph.{specs.Walk.Among, proofs.Members.{Among-append_cases, Among-append_left}}}
+use Rattle.{disk_io.specs.Disk.{DiskState, Files}, disk_atomic.specs.StagingPaths.{dotted, staging_path}, echo_links.specs.LinkLines.LinksOf}
+use Rattle.{echo_toss.specs.PacketsIn.state_in, model_run.{specs.Run.{change, nth}, proofs.{HarmLists.nth-changed as changed-there, Targets.some_same}}}
+use Rattle.{station.specs.Place.Place, law_stations.specs.{Asked.{Asked, AsksMail, AsksPost, AsksPurge, AsksReply, AsksToss, IsAsked}, DiskKinds.IsPostAs}}
+use Rattle.law_stations.specs.{Commands.{Command, Post, Purge, Scan, Toss, Tosses}, Disks.{Disks, StagingFile}, Nets.{Net, Station, with_base}}
+use Rattle.law_stations.specs.{OnDisks.LeavesElsewhere, PacketNames.{AreOfNet, IsFolderIn, IsPacketName, IsToName, ShowsFolder}, Seats.IsBelow}
+use Rattle.law_stations.specs.{Steps.{IsAllOnDisk, MayLead}, Stopping.{EndsOne, EndsSome, PartialEffect, ScansFar, staging_of}}
+use Rattle.law_stations.proofs.{FileRuns.{tossed-all, wholes}, Others.tossed-cursor, PacketNames.{ends-keep, still-waits}}
 
 -- ---- the net goes on
 

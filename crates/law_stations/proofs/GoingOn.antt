@@ -1,10 +1,9 @@
 -- A net goes on by a command that does on a disk what its event may do.
-use Rattle.std.proofs.Common.{◌≡◌, ◌∙◌, inl, inr, ⊎_elim, refl, sym, ap, ℕ, List, Some, None, Result, arith}
-use Rattle.disk_io.specs.Disk.{DiskState, Files}
-use Rattle.cmd_store.specs.declared.command_error.CommandError.{CommandError}
-use Rattle.model_run.{specs.Run.nth, proofs.Targets.some_same}
-use Rattle.station.specs.Place.{Place}
-use Rattle.law_stations.specs.{Asked.Asked, Asked.AnswerOf, Asked.CommandGoesOn, Asked.CommandsGoOn, Asked.GoesOnCut, Asked.IsAsked, Disks.Disks, Nets.Station, PacketNames.IsFolderIn, PacketNames.ShowsFolder, OnDisks.RefinesEvent, OnDisks.LeavesElsewhere, OnDisks.MayLeadBy, OnDisks.ShowsStation, Seats.RepresentsSeat, Seats.Seat, Seats.reach, Steps.IsAllOnDisk}
+use Rattle.{std.proofs.Common.{◌≡◌, ◌∙◌, inl, inr, ⊎_elim, refl, sym, ap, ℕ, List, Some, None, Result, arith}, disk_io.specs.Disk.{DiskState, Files}}
+use Rattle.{cmd_store.specs.declared.command_error.CommandError.CommandError, model_run.{specs.Run.nth, proofs.Targets.some_same}, station.specs.Place.Place}
+use Rattle.law_stations.specs.{Asked.{Asked, AnswerOf, CommandGoesOn, CommandsGoOn, GoesOnCut, IsAsked}, Disks.Disks, Nets.Station}
+use Rattle.law_stations.specs.{PacketNames.{IsFolderIn, ShowsFolder}, OnDisks.{RefinesEvent, LeavesElsewhere, MayLeadBy, ShowsStation}}
+use Rattle.law_stations.specs.{Seats.{RepresentsSeat, Seat, reach}, Steps.IsAllOnDisk}
 use Rattle.law_stations.proofs.Folders.{asked-no-scan, folder-cut, folder-kept, folder-led, folder-then, grows-same}
 
 pub reaches-by : (place further : Place) (old new : DiskState) → ((m : List ℕ) → place.is_own m → further.is_own m) → LeavesElsewhere place old new → LeavesElsewhere further old new
@@ -19,7 +18,6 @@ module _ {D Kept : Type 0} (state : D → DiskState) (place : Kept → Place) (s
   elsewhere : LeavesElsewhere (reach place seat) (state old) (state whole)
   elsewhere = reaches-by (place seat.kept) (reach place seat) (state old) (state whole) (λ m own. inl own) does.elsewhere
 
-  -- the folder of packets
   led-folder : (next : Disks) → MayLeadBy (IsAsked asked was.base) i d next → (is : Station) → nth i next.net.stations ≡ Some is → (c : Files) → IsFolderIn (place seat.kept) seat.outbound i was c d
       → IsFolderIn (place seat.kept) seat.outbound i is c next
   led-folder next (inl same) is there c folder =

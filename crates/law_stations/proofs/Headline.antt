@@ -1,10 +1,7 @@
 -- Packet files are read as one list of packets, and the meaning of a 0 of `check`.
-use Rattle.std.{proofs.Common.{◌≡◌, refl, sym, ℕ, List, [], ◌∷◌, append-nil, Option, Ok}, specs.Prelude.Bool}
-use Rattle.cmd_status.specs.{Devices.Output, declared.fault.Fault.Fault, declared.status.Status.TheVariants.Good, Inputs.AreLinkFiles}
-use Rattle.echo_links.specs.Links.{LinkFile, upper}
-use Rattle.model_steps.specs.declared.packet.Packet.{Packet}
-use Rattle.model_run.specs.Tidy.{Tidy}
-use Rattle.cmd_check.specs.Checking.{CheckAnswers}
+use Rattle.{std.{proofs.Common.{◌≡◌, refl, sym, ℕ, List, [], ◌∷◌, append-nil, Option, Ok}, specs.Prelude.Bool}, cmd_status.specs.Devices.Output}
+use Rattle.{cmd_status.specs.{declared.{fault.Fault.Fault, status.Status.TheVariants.Good}, Inputs.AreLinkFiles}, echo_links.specs.Links.{LinkFile, upper}}
+use Rattle.{model_steps.specs.declared.packet.Packet.Packet, model_run.specs.Tidy.Tidy, cmd_check.specs.Checking.CheckAnswers}
 use Rattle.law_stations.{specs.{Agreement.{IsPacketFile, limits_of}, InOrder.ReadsAs, Nets.Paired}, proofs.Readings.one-packet}
 
 pub reads-once : (bytes : List ℕ) (p q : Packet) → ReadsAs bytes p → ReadsAs bytes q → q ≡ p

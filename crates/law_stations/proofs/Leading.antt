@@ -1,13 +1,11 @@
 -- A command that ran on a station leads to a net in which the station has the command's base.
 use Rattle.std.{proofs.Common.{◌≡◌, ◌⊎◌, inl, inr, ⊎_elim, ◌∙◌, ℕ, List, Result, Ok, Err, refl, sym, subst, ap, arith}, specs.Prelude.IfErr}
-use Rattle.base_file.specs.Base.{Base}
-use Rattle.disk_io.specs.{Disk.DiskState, Disk.Files, Runs.LeavesOnly}
-use Rattle.echo_links.specs.{Links.LinkFile, LinkLines.LinksOf}
+use Rattle.{base_file.specs.Base.Base, disk_io.specs.{Disk.{DiskState, Files}, Runs.LeavesOnly}, echo_links.specs.{Links.LinkFile, LinkLines.LinksOf}}
 use Rattle.model_run.{specs.Run.{change, nth}, proofs.{HarmLists.nth-changed as changed-there, Targets.some_same}}
-use Rattle.cmd_status.specs.{declared.fault.Fault.Fault, Devices.Output}
-use Rattle.cmd_store.specs.declared.command_error.CommandError.{CommandError, TheVariants.Met, TheVariants.Store}
-use Rattle.station.specs.{Place.KeepsElsewhere, Place.Place, Place.SameElsewhere, Place.RepresentsOrWasLeft, Running.IsRun, Running.RunsIn, Running.RepresentsAsBefore, Running.RepresentsWhereMet}
-use Rattle.law_stations.specs.{OnDisks.AreAsMay, OnDisks.RefinesEvent, OnDisks.IsAfter, OnDisks.IsAsBefore, OnDisks.IsLinkedOn, OnDisks.IsStationAt, OnDisks.LeadsFarBy, OnDisks.ReadsLinks, OnDisks.ShowsStation, Commands.Command, Nets.with_base, Disks.Disks, Stopping.PartialEffect}
+use Rattle.{cmd_status.specs.{declared.fault.Fault.Fault, Devices.Output}, cmd_store.specs.declared.command_error.CommandError.{CommandError, TheVariants.Met}}
+use Rattle.station.specs.{Place.{KeepsElsewhere, Place, SameElsewhere, RepresentsOrWasLeft}, Running.{IsRun, RunsIn, RepresentsAsBefore, RepresentsWhereMet}}
+use Rattle.law_stations.specs.OnDisks.{AreAsMay, RefinesEvent, IsAfter, IsAsBefore, IsLinkedOn, IsStationAt, LeadsFarBy, ReadsLinks, ShowsStation}
+use Rattle.law_stations.specs.{Commands.Command, Nets.with_base, Disks.Disks, Stopping.PartialEffect}
 
 -- disks to which a command of this kind leads, on which the station has this base
 pub record LeadsTo (IsCommand : Command → Type 0) (i : ℕ) (d : Disks) (next : Base) : Type 0 where
@@ -61,10 +59,6 @@ module _ (place : Place) (links : List ℕ) (i : ℕ) (d : Disks) (old new : Dis
   module _ {A : Type 0} (IsAnswer : LinkFile → Base → Type 0) (Makes May : LinkFile → Base → Base → Type 0) (Reads : LinkFile → Type 0) (IsShut Stops : Fault → Type 0) (failed : Type 0) (result : Result A CommandError) where
     represented-so : IsRun IsAnswer Makes May place Reads failed old new result → (fault : Fault) → result ≡ Err (Met fault) → RepresentsAsBefore place old new base
     represented-so run fault is = subst (λ (r : Result A CommandError). IfErr r (RepresentsWhereMet place old new base)) is (run.runs base at.shows.represented).met
-
-    abbrev is-shut-by : CommandError → Type 0
-    is-shut-by (Met fault) = IsShut fault
-    is-shut-by (Store cause) = Unit {0}
 
     pub stays : (out out_now : Output) → RunsIn IsAnswer Makes May place Reads IsShut Stops failed old new out out_now result → (fault : Fault) → result ≡ Err (Met fault)
         → IsAsBefore place links i d new ⊎ IsShut fault

@@ -1,16 +1,14 @@
 -- A scan stops before its base is committed, or commits it; then its packets wait for their names.
 use Rattle.std.proofs.Common.{◌≡◌, ◌≢◌, inl, inr, refl, sym, subst, ap, ◌∙◌, ℕ, zero, suc, ◌+◌, ◌≤◌, ◌<◌, arith, append-nil, append_assoc, length-append, List, [], ◌∷◌, ◌++◌, length, map, Option, Some}
-use Rattle.std.{proofs.lemmas.{Bool.cases_lt, List.{drop_all, length-map}}, specs.List.AllByRecursion}
-use Rattle.base_file.specs.Base.{Base}
-use Rattle.model_graph.specs.Walk.{Among}
-use Rattle.echo_links.specs.Links.{LinkFile}
-use Rattle.echo_filed.specs.{Filed.Filed, Sets.address_set}
-use Rattle.model_steps.specs.{declared.stamp.Stamp.Stamp, PacketFiles.PacketFile, Scanning.packets_of, Scanning.recipients, Scanning.scanned}
-use Rattle.model_run.{specs.Run.{change, nth}, proofs.{Lists.nth-append, HarmLists.nth-changed as changed-there, HarmLists.nth-middle, Targets.some_same}}
-use Rattle.base_store.specs.Store.{all_scanned}
-use Rattle.cmd_store.specs.PacketLines.{file_sent}
-use Rattle.law_stations.specs.{Nets.Net, Nets.Paired, Nets.Station, Nets.bytes_of, Nets.with_base, Nets.with_left, Disks.StagingFile, Disks.Disks, Disks.HasCursor, Disks.cursor_of, Disks.cursors, Commands.Scans, Stopping.IsOfNext, Stopping.Moves, Stopping.Writes, Stopping.staging_of}
-use Rattle.law_stations.proofs.{Counting.IsItem, Counting.below, Counting.from, Counting.nones, Counting.waits-append, Counting.waits-from, Counting.waits-nones, Tracking.IsTagged, Tracking.Tracks, Tracking.cursor-too, Tracking.has-cursor, Tracking.paired-so, Pairs.paired-append}
+use Rattle.{std.{proofs.lemmas.{Bool.cases_lt, List.{drop_all, length-map}}, specs.List.AllByRecursion}, base_file.specs.Base.Base}
+use Rattle.{model_graph.specs.Walk.Among, echo_links.specs.Links.LinkFile, echo_filed.specs.{Filed.Filed, Sets.address_set}}
+use Rattle.model_steps.specs.{declared.stamp.Stamp.Stamp, PacketFiles.PacketFile, Scanning.{packets_of, recipients, scanned}}
+use Rattle.model_run.{specs.Run.{change, nth}, proofs.{Lists.nth-append, HarmLists.{nth-changed as changed-there, nth-middle}, Targets.some_same}}
+use Rattle.{base_store.specs.Store.all_scanned, cmd_store.specs.PacketLines.file_sent}
+use Rattle.law_stations.specs.{Nets.{Net, Paired, Station, bytes_of, with_base, with_left}, Disks.{StagingFile, Disks, HasCursor, cursor_of, cursors}}
+use Rattle.law_stations.specs.{Commands.Scans, Stopping.{IsOfNext, Moves, Writes, staging_of}}
+use Rattle.law_stations.proofs.Counting.{IsItem, below, from, nones, waits-append, waits-from, waits-nones}
+use Rattle.law_stations.proofs.{Tracking.{IsTagged, Tracks, cursor-too, has-cursor, paired-so}, Pairs.paired-append}
 
 unfinished-tagged : (packets : List (List ℕ)) (at : List ℕ) (i c : ℕ) (files : List StagingFile) → nth i at ≡ Some c → AllByRecursion (IsOfNext i c) files
     → Paired (IsTagged packets at) files (nones files)

@@ -1,9 +1,7 @@
 -- A command that leaves files elsewhere unchanged leaves other stations unchanged.
-use Rattle.std.proofs.Common.{◌≡◌, ◌≢◌, ◌⊎◌, inl, inr, ◌∙◌, ℕ, List, arith}
-use Rattle.disk_io.specs.Disk.{DiskState, Files}
-use Rattle.station.specs.Place.{Place, SameElsewhere}
-use Rattle.law_stations.specs.{Neighbours.IsApart, Neighbours.OthersStay, Neighbours.SameOnDisk, Neighbours.RepresentsOnDisk, Neighbours.StaysOnDisk, Commands.CommandEvent, Disks.Disks, Stopping.MayHappen, OnDisks.LeavesElsewhere, OnDisks.ShowsStation}
-use Rattle.law_stations.proofs.Elsewhere.{elsewhere}
+use Rattle.{std.proofs.Common.{◌≡◌, ◌≢◌, ◌⊎◌, inl, inr, ◌∙◌, ℕ, List, arith}, disk_io.specs.Disk.{DiskState, Files}, station.specs.Place.{Place, SameElsewhere}}
+use Rattle.law_stations.specs.{Neighbours.{IsApart, OthersStay, SameOnDisk, RepresentsOnDisk, StaysOnDisk}, Commands.CommandEvent, Disks.Disks}
+use Rattle.law_stations.{specs.{Stopping.MayHappen, OnDisks.{LeavesElsewhere, ShowsStation}}, proofs.Elsewhere.elsewhere}
 
 module _ (place other : Place) (old new : DiskState) (links : List ℕ) (i : ℕ) (event : CommandEvent) (d after : Disks) (left : LeavesElsewhere place old new) (apart : IsApart other links place)
     (was : RepresentsOnDisk other links i old d) (off : i ≢ event.station) (happens : MayHappen event d after) where

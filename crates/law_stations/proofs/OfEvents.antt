@@ -1,20 +1,17 @@
 -- A posting, a scan and a purge at a station are events of the run.
 use Rattle.std.proofs.Common.{◌≡◌, inl, inr, refl, sym, subst, ap, ◌∙◌, ℕ, arith, cond, List, [], ◌∷◌, ◌++◌, append-nil, map, Option, Some, None}
-use Rattle.std.{proofs.lemmas.Bool.cond-true, specs.{Prelude.is_none, List.AllByRecursion}}
-use Rattle.model_graph.{specs.Walk.Among, proofs.Members.{Among-append_cases, Among-append_left, Among-append_right}}
-use Rattle.echo_packet.specs.Header.{AreBytes}
-use Rattle.echo_links.specs.Links.{LinkFile}
-use Rattle.echo_filed.specs.Filed.{Filed}
-use Rattle.base_file.specs.Base.{Base}
-use Rattle.model_steps.specs.{declared.draft.Draft.Draft, declared.fault.PostFault.PostFault, declared.stamp.Stamp.Stamp, PacketFiles.PacketFile, Posting.post_refusal, Posting.posted, Posting.posting, Scanning.scanned, Stamps.is_stamp}
-use Rattle.model_steps.specs.Purging as steps
-use Rattle.model_steps.proofs.{Kept.posting_keeps, Purged.purge_keeps}
+use Rattle.{std.{proofs.lemmas.Bool.cond-true, specs.{Prelude.is_none, List.AllByRecursion}}, model_graph.specs.Walk.Among}
+use Rattle.{model_graph.proofs.Members.{Among-append_cases, Among-append_left, Among-append_right}, echo_packet.specs.Header.AreBytes}
+use Rattle.{echo_links.specs.Links.LinkFile, echo_filed.specs.Filed.Filed, base_file.specs.Base.Base, model_steps.specs.declared.draft.Draft.Draft}
+use Rattle.model_steps.specs.{declared.{fault.PostFault.PostFault, stamp.Stamp.Stamp}, PacketFiles.PacketFile, Posting.{post_refusal, posted, posting}}
+use Rattle.model_steps.{specs.{Scanning.scanned, Stamps.is_stamp}, proofs.{Kept.posting_keeps, Purged.purge_keeps}}
 use Rattle.base_store.specs.Store.{all_scanned, purged, with_message}
-use Rattle.model_run.specs.{Run.Run, Run.System, Run.after_event, Run.change, Run.filing, Run.posting_at, Run.purging_at, Run.scanning, Run.scanning_at, Event.Posting, Event.Purging, Event.Scanning}
-use Rattle.cmd_store.specs.{declared.drafting.NewMessage.NewMessage, Drafts.draft_given, Drafts.refusal_given, PacketLines.file_sent}
-use Rattle.echo_toss.specs.PacketsIn.{state_in}
-use Rattle.law_stations.specs.{Agreement.Agrees, Agreement.HasPosting, Agreement.HasSystem, Agreement.IsPacketFile, Agreement.base_of, Nets.Net, Nets.Paired, Nets.bytes_of, Nets.with_base, Nets.with_left, Commands.Posts, Commands.Purges, Commands.Scans}
-use Rattle.law_stations.proofs.{Packets.scanned-fit, Pairs.paired-append, Pairs.paired-nth, Putting.puts-agree, Systems.file-fits, Systems.one-file}
+use Rattle.model_run.specs.{Run.{Run, System, after_event, change, filing, posting_at, purging_at, scanning, scanning_at}, Event.{Posting, Purging, Scanning}}
+use Rattle.cmd_store.specs.{declared.drafting.NewMessage.NewMessage, Drafts.{draft_given, refusal_given}, PacketLines.file_sent}
+use Rattle.{echo_toss.specs.PacketsIn.state_in, law_stations.specs.Agreement.{Agrees, HasPosting, HasSystem, IsPacketFile, base_of}}
+use Rattle.law_stations.{specs.{Nets.{Net, Paired, bytes_of, with_base, with_left}, Commands.{Posts, Purges, Scans}}, proofs.Packets.scanned-fit}
+use Rattle.law_stations.proofs.{Pairs.{paired-append, paired-nth}, Putting.puts-agree, Systems.{file-fits, one-file}}
+use Rattle.model_steps.specs.Purging as steps
 
 is-filed : (file : LinkFile) (base : List Filed) (tag : List ℕ) (draft : Draft) (serial : ℕ) (stamp : Stamp) → post_refusal file base tag draft serial stamp ≡ None
     → posting file base tag draft serial stamp ≡ Some (posted file tag draft serial stamp)

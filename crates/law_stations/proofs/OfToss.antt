@@ -1,20 +1,18 @@
 -- The toss of packet files at a station is some deliveries of the run.
 use Rattle.std.proofs.Common.{◌≡◌, ◌≢◌, inl, inr, refl, sym, subst, ap, ◌∙◌, ℕ, zero, suc, ◌+◌, ◌-◌, arith, List, [], ◌∷◌, length, map, take, Option, None, Some, Ok}
-use Rattle.std.proofs.lemmas.{Bool.cond-false, Bool.ne_eqb, List.take_all}
-use Rattle.model_graph.specs.Walk.{Different}
-use Rattle.echo_packet.specs.{declared.header.Header.Header, Message.Message}
-use Rattle.echo_links.specs.{Links.LinkFile, LinkLines.LinksOf}
-use Rattle.base_file.specs.Base.{Base}
-use Rattle.model_steps.specs.{declared.packet.Packet.Packet, SystemState.SystemState, Tossing.destination_of, Tossing.sender_of}
+use Rattle.{std.proofs.lemmas.{Bool.{cond-false, ne_eqb}, List.take_all}, model_graph.specs.Walk.Different, echo_packet.specs.declared.header.Header.Header}
+use Rattle.{echo_packet.specs.Message.Message, echo_links.specs.{Links.LinkFile, LinkLines.LinksOf}, base_file.specs.Base.Base}
+use Rattle.model_steps.specs.{declared.packet.Packet.Packet, SystemState.SystemState, Tossing.{destination_of, sender_of}}
 use Rattle.echo_toss.specs.{PacketSteps.IsForUs, PacketsIn.state_in}
-use Rattle.model_run.specs.{Run.Run, Run.System, Run.after_events, Run.change, Run.coming, Run.delivery, Run.destination, Run.nth, Run.part_delivery, Run.receiver, Run.state_of, Run.taking, Run.tossing_at, Run.with_index, Event.Delivery, Event.PartDelivery, Event.RunEvent}
-use Rattle.cmd_status.specs.declared.fault.Fault.{Fault}
-use Rattle.cmd_store.specs.Coming.{Coming, Fails, Holds, Unknown}
-use Rattle.law_stations.specs.{Agreement.Agrees, Agreement.AreTossesOf, Agreement.HasSystem, Agreement.IsPacketFile, Agreement.limits_of, Agreement.own_address, Nets.Net, Nets.Paired, Nets.Station, Nets.with_base, Nets.with_indexes, Nets.with_tossed, Commands.IsPacketAt, Commands.Tosses, Commands.whole_of}
-use Rattle.law_stations.proofs.{FileRuns.IsPartly, FileRuns.TossedFiles, FileRuns.tossed-all, FileRuns.wholes, Pairs.change-same, Pairs.change-twice, Pairs.paired-length, Pairs.paired-nth, Places.addresses-stay, Places.place-of, Putting.puts-agree, Readings.TossesFront, Readings.front-packet, Readings.one-packet, Systems.file-fits, Systems.one-file, Tossed.Takes, Tossed.takes-front, Unpurged.AsFiledAt, Unpurged.change-as_filed, Unpurged.tossing-as_filed}
-use Rattle.model_run.proofs.HarmLists.{nth-changed as changed-there}
+use Rattle.model_run.specs.Run.{Run, System, after_events, change, coming, delivery, destination, nth, part_delivery, receiver, state_of, taking, tossing_at, with_index}
+use Rattle.model_run.{specs.Event.{Delivery, PartDelivery, RunEvent}, proofs.HarmLists.nth-changed as changed-there}
+use Rattle.{cmd_status.specs.declared.fault.Fault.Fault, cmd_store.specs.Coming.{Coming, Fails, Holds, Unknown}}
+use Rattle.law_stations.specs.Agreement.{Agrees, AreTossesOf, HasSystem, IsPacketFile, limits_of, own_address}
+use Rattle.law_stations.specs.{Nets.{Net, Paired, Station, with_base, with_indexes, with_tossed}, Commands.{IsPacketAt, Tosses, whole_of}}
+use Rattle.law_stations.proofs.{FileRuns.{IsPartly, TossedFiles, tossed-all, wholes}, Pairs.{change-same, change-twice, paired-length, paired-nth}}
+use Rattle.law_stations.proofs.{Places.{addresses-stay, place-of}, Putting.puts-agree, Readings.{TossesFront, front-packet, one-packet}}
+use Rattle.law_stations.proofs.{Systems.{file-fits, one-file}, Tossed.{Takes, takes-front}, Unpurged.{AsFiledAt, change-as_filed, tossing-as_filed}}
 
--- the base of a state
 abbrev base_in : SystemState → Base
 base_in state = record { messages = state.base; cursor = state.cursor }
 

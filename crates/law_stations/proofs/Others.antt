@@ -1,17 +1,13 @@
 -- A posting, a purge or a toss on the disks is one on the net, and moves no cursor.
 use Rattle.std.proofs.Common.{◌≡◌, ◌⊎◌, inl, inr, refl, sym, subst, ap, ◌∙◌, ℕ, zero, suc, append-nil, List, [], ◌∷◌, ◌++◌, length, map, take, Option, Some, None, arith}
-use Rattle.base_file.specs.Base.{Base}
-use Rattle.model_graph.specs.Walk.{Among}
-use Rattle.echo_filed.specs.Filed.{Filed}
-use Rattle.echo_links.specs.Links.{LinkFile}
-use Rattle.model_steps.specs.{Posting.posted, SystemState.SystemState}
-use Rattle.base_store.specs.Store.{purged}
-use Rattle.echo_toss.specs.PacketsIn.{state_in}
+use Rattle.{base_file.specs.Base.Base, model_graph.specs.Walk.Among, echo_filed.specs.Filed.Filed, echo_links.specs.Links.LinkFile}
+use Rattle.{model_steps.specs.{Posting.posted, SystemState.SystemState}, base_store.specs.Store.purged, echo_toss.specs.PacketsIn.state_in}
 use Rattle.model_run.{specs.Run.{change, nth, with_index}, proofs.Lists.{with_index-from, with_index-new, with_index-old}}
-use Rattle.cmd_store.specs.{declared.drafting.NewMessage.NewMessage, Coming.Coming, Coming.Fails, Coming.Holds, Coming.Unknown, Drafts.draft_given}
+use Rattle.cmd_store.specs.{declared.drafting.NewMessage.NewMessage, Coming.{Coming, Fails, Holds, Unknown}, Drafts.draft_given}
 use Rattle.law_stations.specs.Commands.{Command, IsAt, IsPacketAt, Leads, Post, Posts, Purge, Purges, Toss, Tosses, whole_of}
-use Rattle.law_stations.specs.{Nets.Net, Nets.Paired, Nets.Station, Nets.with_base, Nets.with_indexes, Nets.with_left, Nets.with_posting, Nets.with_tossed, Disks.Disks, Disks.cursor_of}
-use Rattle.law_stations.proofs.{FileRuns.IsPartly, FileRuns.TossedFiles, FileRuns.tossed-all, FileRuns.wholes, OfToss.whole-first, Pairs.change-map, Pairs.paired-nth, Counting.IsItem, Tracking.IsTossedAt, Tracking.Tracks, Tracking.still}
+use Rattle.law_stations.specs.{Nets.{Net, Paired, Station, with_base, with_indexes, with_left, with_posting, with_tossed}, Disks.{Disks, cursor_of}}
+use Rattle.law_stations.proofs.{FileRuns.{IsPartly, TossedFiles, tossed-all, wholes}, OfToss.whole-first, Pairs.{change-map, paired-nth}, Counting.IsItem}
+use Rattle.law_stations.proofs.Tracking.{IsTossedAt, Tracks, still}
 
 same-cursors : (i : ℕ) (station : Station) (next : Base) (stations : List Station) → nth i stations ≡ Some station → next.cursor ≡ station.base.cursor
     → map cursor_of (change i (with_base next) stations) ≡ map cursor_of stations

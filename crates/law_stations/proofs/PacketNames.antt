@@ -1,22 +1,20 @@
 -- Files under packets' names while the packets of earlier scans get theirs.
-use Rattle.std.proofs.Common.{◌≡◌, ◌≢◌, ◌⊎◌, inl, inr, ⊎_elim, ◌∙◌, ◌<◌, ◌≤◌, ◌+◌, ◌-◌, ◌^◌, refl, sym, subst, ap, ℕ, zero, suc, Bool, true, false, true≢false, List, [], ◌∷◌, ◌++◌, append-nil, append_assoc, arith, codes, drop, get_or, length, length-append, map, Option, Some, None}
-use Rattle.std.proofs.lemmas.{Bool.{cases_Bool, cases_lt, cases_order}, Fmt.{decimal_injective, decimal_is_IsNumeral}, List.{append_cancel_left, append_cancel_right, get_or-append-add, get_or_append_left}, Str.Parse.digit_at}
-use Rattle.std.proofs.{Math.Seq.drop-append_seam, lemmas.List.Elements.{All-cons, All-contains, All-nil, Contains-append_right, Contains-get_or}}
-use Rattle.std.specs.{Fmt.decimal, Prelude.All, Prelude.Contains, Prelude.IsSome, Prelude.bytes_eq, Cmp.Lexicographic.bytes_decides, Str.Parse.AllDigits}
-use Rattle.disk_io.specs.Disk.{DiskState, Files}
-use Rattle.disk_atomic.specs.{Finishing.EndsAs, Finishing.IsOfLeft, ListStaged.IsNameByte, ListStaged.IsNumbered, StagingPaths.staging_path, declared.finishing.Left.Left}
-use Rattle.model_graph.{specs.Walk.Among, proofs.Members.{Among-append_cases, Among-append_left, Among-append_right, Among-from_Contains}}
-use Rattle.model_run.proofs.Targets.{none_some, some_same}
-use Rattle.model_steps.specs.{PacketFiles.PacketFile, declared.packet.Packet.Packet}
-use Rattle.cmd_store.specs.{Lines.named_receiver, PacketLines.file_sent}
-use Rattle.station_scan.specs.{Left.{IsEnded, IsLeftOf, IsToFind}, Scanning.{CommitsScan, PreparesScan}}
-use Rattle.station_scan.specs.{Publishing.IsOnDisk, Sending.IsFreeAt, Sending.IsStagingOfPacket, Sending.IsWholeAlone, Sends.IsOfThese}
-use Rattle.law_stations.specs.{Disks.Disks, Disks.HasCursor, Disks.StagingFile, Disks.naming, Nets.Net, PacketNames.AreOfNet, PacketNames.ArePathsOnDisk, PacketNames.IsPacketName, PacketNames.IsToName, Stopping.EndsOne, Stopping.EndsSome, Stopping.HasNoneStaged}
-use Rattle.law_stations.proofs.Ended.{cursor-stays}
+use Rattle.std.proofs.Common.{◌≡◌, ◌≢◌, ◌⊎◌, inl, inr, ⊎_elim, ◌∙◌, ◌<◌, ◌≤◌, ◌+◌, ◌-◌, ◌^◌, refl, sym, subst, ap, ℕ, zero, suc, Bool, true, false, List, [], ◌∷◌, ◌++◌, append-nil, append_assoc, arith, codes, drop, get_or, length, length-append, map, Option, Some, None}
+use Rattle.std.proofs.lemmas.{Bool.{cases_lt, cases_order}, Fmt.{decimal_injective, decimal_is_IsNumeral}}
+use Rattle.std.proofs.lemmas.{List.{append_cancel_left, append_cancel_right, get_or-append-add, get_or_append_left}, Str.Parse.digit_at}
+use Rattle.std.{proofs.{Math.Seq.drop-append_seam, lemmas.List.Elements.All-contains}, specs.{Fmt.decimal, Prelude.{All, Contains, IsSome}}}
+use Rattle.{std.specs.Str.Parse.AllDigits, disk_io.specs.Disk.{DiskState, Files}, disk_atomic.specs.Finishing.{EndsAs, IsOfLeft}}
+use Rattle.{disk_atomic.specs.{ListStaged.{IsNameByte, IsNumbered}, StagingPaths.staging_path, declared.finishing.Left.Left}, model_graph.specs.Walk.Among}
+use Rattle.model_graph.proofs.Members.{Among-append_cases, Among-append_left, Among-append_right, Among-from_Contains}
+use Rattle.{model_run.proofs.Targets.{none_some, some_same}, model_steps.specs.{PacketFiles.PacketFile, declared.packet.Packet.Packet}}
+use Rattle.{cmd_store.specs.{Lines.named_receiver, PacketLines.file_sent}, station_scan.proofs.Lists.among as one_of}
+use Rattle.station_scan.specs.{Left.{IsEnded, IsLeftOf, IsToFind}, Scanning.{CommitsScan, PreparesScan}, Publishing.IsOnDisk}
+use Rattle.station_scan.specs.{Sending.{IsFreeAt, IsStagingOfPacket, IsWholeAlone}, Sends.IsOfThese}
+use Rattle.law_stations.specs.{Disks.{Disks, HasCursor, StagingFile, naming}, Nets.Net, PacketNames.{AreOfNet, ArePathsOnDisk, IsPacketName, IsToName}}
+use Rattle.law_stations.{specs.Stopping.{EndsOne, EndsSome, HasNoneStaged}, proofs.Ended.cursor-stays}
 
 -- ---- paths
 
--- the end of a staging path
 abbrev ending : List ℕ → List ℕ
 ending own = codes ".~" ++ (own ++ codes "~.new")
 
@@ -32,11 +30,9 @@ no-staging outbound own name other plain is =
 pub no-trial : (outbound own name : List ℕ) → All IsNameByte name → outbound ++ name ≡ staging_path outbound own → ⊥
 no-trial outbound own name plain is = no-staging outbound own name [] plain (is ∙ ap (λ (l : List ℕ). staging_path l own) (sym (append-nil outbound)))
 
--- the name in a staging path
 staged-name : (outbound own name other : List ℕ) → staging_path (outbound ++ name) own ≡ staging_path (outbound ++ other) own → name ≡ other
 staged-name outbound own name other is = append_cancel_left outbound name other (append_cancel_right (outbound ++ name) (outbound ++ other) (ending own) is)
 
--- the end of a packet's name
 abbrev tail : ℕ → List ℕ
 tail number = codes "." ++ (decimal number ++ codes ".pkt")
 
@@ -76,23 +72,6 @@ one-number front other number more small little is = elim (cases_order (length (
   | inr differs ↦ elim differs [
     | inl fewer ↦ absurd (no-fewer front other number more little is fewer)
     | inr longer ↦ absurd (no-fewer other front more number small (sym is) longer)
-  ]
-]
-
-same-or-not : (one other : List ℕ) → (one ≡ other) ⊎ (one ≢ other)
-same-or-not one other = elim (cases_Bool (bytes_eq one other)) [
-  | inl same ↦ inl ((bytes_decides one other).0 same)
-  | inr not ↦ inr (λ e. true≢false (sym ((bytes_decides one other).1 e) ∙ not))
-]
-
--- one of them has the path, or none
-pub one-has : {X : Type 0} (f : X → List ℕ) (m : List ℕ) (xs : List X) → ((x : X) × Contains xs x × (m ≡ f x)) ⊎ (All (λ x. m ≢ f x) xs)
-one-has f m [] = inr (All-nil (λ x. m ≢ f x))
-one-has f m (x ∷ xs) = elim (same-or-not m (f x)) [
-  | inl here ↦ inl (x, Contains-get_or (x ∷ xs) 0 x (omega arith), here)
-  | inr other ↦ elim (one-has f m xs) [
-    | inl found ↦ inl (found.0, Contains-append_right (x ∷ []) xs found.0 found.1, found.2)
-    | inr none ↦ inr (All-cons (λ y. m ≢ f y) x xs other none)
   ]
 ]
 
@@ -311,7 +290,7 @@ module _ (Own : List ℕ → Type 0) (outbound own : List ℕ) (n i cursor : ℕ
         written name is = prepares.writes (at name) (not-written name is.numbered.plain files)
 
         prepared-path : (name : List ℕ) → (is : Named name) → IsFromPath c name is.number
-        prepared-path name is = elim (one-has (λ (l : Left). l.path.now) (at name) found) [
+        prepared-path name is = elim (one_of (λ (l : Left). l.path.now) (at name) found) [
           | inl (l, among, path) ↦ (
               let it = left-name name l among is path in
               let e = All-contains (EndsAs cursor before mid) found l prepares.ends.ends among in
@@ -329,7 +308,7 @@ module _ (Own : List ℕ → Type 0) (outbound own : List ℕ) (n i cursor : ℕ
         prepared-staged : (name : List ℕ) → (is : Named name) → is.number < cursor → IsFromStaging c name
         prepared-staged name is below =
             let kept = prepares.writes (staged name) (staged-not-written name is below) in
-            elim (one-has (λ (l : Left). l.path.now) (at name) found) [
+            elim (one_of (λ (l : Left). l.path.now) (at name) found) [
               | inl (l, among, path) ↦ (
                   let it = left-name name l among is path in
                   elim (All-contains (EndsAs cursor before mid) found l prepares.ends.ends among).staged [
@@ -358,7 +337,7 @@ module _ (Own : List ℕ → Type 0) (outbound own : List ℕ) (n i cursor : ℕ
             commits.others (staged name) (staged-off-these name is not) (inl (on.staging name is, off_left)) ∙ commits.staging_them (staged name) off_left ∙ same (staged name) is.off.staging
 
         committed-path : (name : List ℕ) → (is : Named name) → IsNoneSent name → IsFromPath c name is.number
-        committed-path name is not = elim (one-has (λ (l : Left). l.path.now) (at name) found) [
+        committed-path name is not = elim (one_of (λ (l : Left). l.path.now) (at name) found) [
           | inl (l, among, path) ↦ (
               let it = left-name name l among is path in
               let e = All-contains (IsEnded cursor opened ended_files) found l commits.ended among in
@@ -384,14 +363,14 @@ module _ (Own : List ℕ → Type 0) (outbound own : List ℕ) (n i cursor : ℕ
             ∙ (All-contains (IsEnded cursor opened ended_files) found l commits.ended among).gone
 
         committed-staged : (name : List ℕ) → (is : Named name) → IsNoneSent name → IsFromStaging c name
-        committed-staged name is not = elim (one-has (λ (l : Left). l.path.now) (at name) found) [
+        committed-staged name is not = elim (one_of (λ (l : Left). l.path.now) (at name) found) [
           | inl (l, among, path) ↦ inr (ended-staged name is not l among path)
           | inr none_left ↦ inl (kept-staged name is not none_left)
         ]
 
         -- all staging files of later numbers are gone, since they were listed
         later-gone : (name bytes : List ℕ) → (is : Named name) → IsNoneSent name → c (staged name) ≡ Some bytes → ⊥
-        later-gone name bytes is not there = elim (one-has (λ (l : Left). l.path.now) (at name) found) [
+        later-gone name bytes is not there = elim (one_of (λ (l : Left). l.path.now) (at name) found) [
           | inl (l, among, path) ↦ none_some (sym (ended-staged name is not l among path) ∙ there)
           | inr none_left ↦ (
               let stood : opened (staged name) ≡ Some bytes = same (staged name) is.off.staging ∙ sym (kept-staged name is not none_left) ∙ there in
@@ -403,13 +382,13 @@ module _ (Own : List ℕ → Type 0) (outbound own : List ℕ) (n i cursor : ℕ
         -- with the base from before
         pub before-commit : All (IsFreeAt outbound c) files → AreOfNet Own outbound own i cursor c ended
         before-commit free = before-all c
-            (λ name is. elim (one-has (λ (f : PacketFile). at f.name) (at name) files) [
+            (λ name is. elim (one_of (λ (f : PacketFile). at f.name) (at name) files) [
               | inl (sent, has_it, path) ↦ (
                   let number = sent-number name is sent has_it (append_cancel_left outbound name sent.name path) in
                   inl (ap c path ∙ All-contains (IsFreeAt outbound c) files sent free has_it ∙ sym (was.free name is (omega (arith, number)))))
               | inr not ↦ committed-path name is not
             ])
-            (λ name is below. elim (one-has (λ (f : PacketFile). at f.name) (at name) files) [
+            (λ name is below. elim (one_of (λ (f : PacketFile). at f.name) (at name) files) [
               | inl (sent, has_it, path) ↦ (let number = sent-number name is sent has_it (append_cancel_left outbound name sent.name path) in absurd (omega (arith, number, below)))
               | inr not ↦ committed-staged name is not
             ])
@@ -434,18 +413,18 @@ module _ (Own : List ℕ → Type 0) (outbound own : List ℕ) (n i cursor : ℕ
 
           pub after-commit : All (IsWholeAlone outbound own c) files → ((sent : PacketFile) → Among sent files → IsSentAs sent) → ((sent : PacketFile) → Among sent files → cursor < now) → AreOfNet Own outbound own i now c after
           after-commit wholes sent_as some = record {
-            packets = λ name bytes is there. elim (one-has (λ (f : PacketFile). at f.name) (at name) files) [
+            packets = λ name bytes is there. elim (one_of (λ (f : PacketFile). at f.name) (at name) files) [
               | inl (sent, has_it, path) ↦ sent-path sent bytes (sent_as sent (Among-from_Contains sent files has_it)) (ap c (sym path) ∙ there)
               | inr not ↦ keeps bytes (path-named c name bytes is (committed-path name is not) there)
             ];
-            left = λ name bytes is below there. elim (one-has (λ (f : PacketFile). at f.name) (at name) files) [
+            left = λ name bytes is below there. elim (one_of (λ (f : PacketFile). at f.name) (at name) files) [
               | inl (sent, has_it, path) ↦ sent-staged sent bytes (All-contains (IsWholeAlone outbound own c) files sent wholes has_it) (sent_as sent (Among-from_Contains sent files has_it)) (ap c (ap (λ (l : List ℕ). staging_path l own) (sym path)) ∙ there)
               | inr not ↦ elim (cases_lt is.number cursor) [
                 | inl earlier ↦ inl (keeps bytes (staged-named c name bytes is earlier (committed-staged name is not) there))
                 | inr above ↦ absurd (later-gone name bytes is not there)
               ]
             ];
-            free = λ name is above. elim (one-has (λ (f : PacketFile). at f.name) (at name) files) [
+            free = λ name is above. elim (one_of (λ (f : PacketFile). at f.name) (at name) files) [
               | inl (sent, has_it, path) ↦ (
                   let number = sent-number name is sent has_it (append_cancel_left outbound name sent.name path) in
                   let more = some sent (Among-from_Contains sent files has_it) in

@@ -1,18 +1,15 @@
 -- The packet files of a scan are packets.
-use Rattle.std.proofs.Common.{◌≡◌, ◌≢◌, refl, subst, ℕ, arith, List, [], ◌∷◌, ◌++◌, length, map, drop}
-use Rattle.std.{proofs.{Math.Seq.take-append_seam, lemmas.List.{drop_at, Elements.All-from_recursion}}, specs.{Prelude.filter, List.{AllByRecursion, flat_map}}}
-use Rattle.echo_addr.specs.{declared.address.Address.Address, Address.IsAddress}
+use Rattle.std.proofs.{Common.{◌≡◌, ◌≢◌, refl, subst, ℕ, arith, List, [], ◌∷◌, ◌++◌, length, map, drop}, Math.Seq.take-append_seam, lemmas.List.drop_at}
+use Rattle.std.{proofs.lemmas.List.Elements.All-from_recursion, specs.{Prelude.filter, List.{AllByRecursion, flat_map}}}
+use Rattle.{echo_addr.specs.{declared.address.Address.Address, Address.IsAddress}, law_stations.specs.{Agreement.IsPacketFile, Nets.{Paired, bytes_of}}}
 use Rattle.echo_packet.specs.Message.{DateTime, FromName, Message, Subject, Text, ToName, before, message_bytes, messages_bytes, zero_ended}
-use Rattle.echo_packet.specs.{declared.header.Header.Header, Header.AreBytes, Header.IsHeader, Header.header_bytes, Header.word, Packet.packet_bytes}
-use Rattle.echo_packet.proofs.Headers.{AreBytes-drop, AreBytes-take, IsHeader-from_bytes}
-use Rattle.echo_links.specs.Links.{IsFile, LinkFile, links_of}
+use Rattle.echo_packet.specs.{declared.header.Header.Header, Header.{AreBytes, IsHeader, header_bytes, word}, Packet.packet_bytes}
+use Rattle.{echo_packet.proofs.Headers.{AreBytes-drop, AreBytes-take, IsHeader-from_bytes}, echo_links.specs.Links.{IsFile, LinkFile, links_of}}
 use Rattle.echo_filed.{specs.{Filed.{Filed, IsFiled}, Sets.{address_before, address_set}}, proofs.{Bytes.text_no_zero, Plain.all_append, Sets.set_all}}
-use Rattle.base_file.specs.Base.{IsBase}
-use Rattle.model_steps.specs.{Scanning.copy_to, Scanning.goes_to, Scanning.header_to, Scanning.packet_to, Scanning.packets_of, Scanning.recipients, Scanning.scanned, Scanning.targets, declared.packet.Packet.Packet, declared.stamp.Stamp.Stamp, PacketFiles.PacketFile}
+use Rattle.{base_file.specs.Base.IsBase, model_steps.specs.Scanning.{copy_to, goes_to, header_to, packet_to, packets_of, recipients, scanned, targets}}
+use Rattle.model_steps.specs.{declared.{packet.Packet.Packet, stamp.Stamp.Stamp}, PacketFiles.PacketFile}
 use Rattle.model_steps.proofs.Copies.{exported_is_echo, links_are_addresses, all_filter as all-filter, all_later as all-drop}
-use Rattle.model_steps.proofs.Encoding.{IsWhole, written_packet, header_size as header-long}
-use Rattle.cmd_store.specs.PacketLines.{file_sent}
-use Rattle.law_stations.specs.{Agreement.IsPacketFile, Nets.Paired, Nets.bytes_of}
+use Rattle.{model_steps.proofs.Encoding.{IsWhole, written_packet, header_size as header-long}, cmd_store.specs.PacketLines.file_sent}
 
 bytes-front : (xs ys : List ℕ) → AreBytes (xs ++ ys) → AreBytes xs
 bytes-front xs ys h = subst AreBytes (take-append_seam xs ys) (AreBytes-take (length xs) (xs ++ ys) h)
@@ -90,7 +87,6 @@ unfolding packet_to
 packet-fits file stamp waiting address fits to all bytes =
     copies-packet file stamp address fits to (filter (goes_to file address) waiting) (all-filter IsFiled (goes_to file address) waiting all) bytes
 
--- all packets
 packets-fit : (file : LinkFile) (stamp : Stamp) (waiting : List Filed) (n : ℕ) → IsFile file → AllByRecursion IsFiled waiting → (addresses : List Address)
     → AllByRecursion IsAddress addresses → (let ps = map (packet_to file stamp waiting) addresses in
     AllByRecursion (λ (f : PacketFile). AreBytes f.bytes) (map (file_sent n) ps) → Paired IsPacketFile (map bytes_of (map (file_sent n) ps)) ps)

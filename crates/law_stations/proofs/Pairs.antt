@@ -1,8 +1,6 @@
 -- Two lists with a relation between their items, pair by pair, and lists in which one item changes.
 use Rattle.std.proofs.Common.{◌≡◌, inl, inr, refl, sym, subst, ap, ◌∙◌, ℕ, zero, suc, List, [], ◌∷◌, ◌++◌, length, map, Some, arith}
-use Rattle.model_graph.specs.Walk.{Among}
-use Rattle.model_run.{specs.Run.{change, nth}, proofs.Targets.{some_same, none_some}}
-use Rattle.law_stations.specs.Nets.{Paired}
+use Rattle.{model_graph.specs.Walk.Among, model_run.{specs.Run.{change, nth}, proofs.Targets.{some_same, none_some}}, law_stations.specs.Nets.Paired}
 
 pub paired-nth : {X Y : Type 0} (R : X → Y → Type 0) (i : ℕ) (x : X) (xs : List X) (ys : List Y) → Paired R xs ys → nth i xs ≡ Some x
     → (y : Y) × (nth i ys ≡ Some y) × R x y

@@ -1,8 +1,7 @@
 -- Some of the waiting packets are at their paths: these get their names.
-use Rattle.std.{proofs.Common.{◌≡◌, ◌⊎◌, inl, inr, refl, subst, sym, ℕ, suc, ◌<◌, append-nil, append_assoc, List, [], ◌∷◌, ◌++◌, map}, specs.List.AllByRecursion}
-use Rattle.model_graph.specs.Walk.{Among}
-use Rattle.model_steps.specs.PacketFiles.{PacketFile}
-use Rattle.law_stations.specs.{Nets.Net, Nets.bytes_of, Disks.StagingFile, Disks.HasCursor, Disks.with_packet, Stopping.EndsSome, Stopping.staging_of}
+use Rattle.std.proofs.Common.{◌≡◌, ◌⊎◌, inl, inr, refl, subst, sym, ℕ, suc, ◌<◌, append-nil, append_assoc, List, [], ◌∷◌, ◌++◌, map}
+use Rattle.{std.specs.List.AllByRecursion, model_graph.specs.Walk.Among, model_steps.specs.PacketFiles.PacketFile, law_stations.specs.Nets.{Net, bytes_of}}
+use Rattle.law_stations.specs.{Disks.{StagingFile, HasCursor, with_packet}, Stopping.{EndsSome, staging_of}}
 use Rattle.law_stations.proofs.Whole.{disks_with, gets-name, with_packets}
 
 -- Of the packets that wait after other files, those at their paths get their names.
@@ -16,7 +15,6 @@ pub record Parted (IsAt IsStaged : PacketFile → Type 0) (i cursor : ℕ) (befo
   pub each : (p : PacketFile) → Among p ps → (IsAt p × Among p named) ⊎ (IsStaged p × Among p waiting)
 
 module _ (IsAt IsStaged : PacketFile → Type 0) (i cursor most : ℕ) where
-  -- there are none
   abbrev no-more : (before : List StagingFile) (net : Net) → Parted IsAt IsStaged i cursor before net []
   no-more before net = record {
     steps = 0;
@@ -31,7 +29,6 @@ module _ (IsAt IsStaged : PacketFile → Type 0) (i cursor most : ℕ) where
     each = λ p among. absurd among;
   }
 
-  -- one packet gets its name
   abbrev one-more : (p : PacketFile) (ps : List PacketFile) (before : List StagingFile) (net : Net) → HasCursor net i most → cursor < most → IsAt p
       → Parted IsAt IsStaged i cursor before (with_packet net p.bytes) ps → Parted IsAt IsStaged i cursor before net (p ∷ ps)
   one-more p ps before net has less at rest =

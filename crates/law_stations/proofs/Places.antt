@@ -1,11 +1,9 @@
 -- The places of the systems in a run: an address leads to its system, and files stay.
 use Rattle.std.proofs.Common.{◌≡◌, inl, inr, refl, sym, subst, ap, ◌∙◌, ℕ, zero, suc, ◌+◌, arith, not, true, List, [], ◌∷◌, map, Some}
-use Rattle.std.{proofs.lemmas.Bool.{cond-false, cond-true}, specs.List.position_or_len}
-use Rattle.echo_addr.specs.declared.address.Address.{Address}
-use Rattle.model_graph.specs.Walk.{Among, Different}
-use Rattle.echo_links.{specs.Links.same_address, proofs.Addresses.same_address_decides}
-use Rattle.model_run.specs.{Event.RunEvent, Run.Run, Run.System, Run.after_events, Run.nth}
-use Rattle.model_run.proofs.{Lists.nth-among, Lists.yes_or_no, Lists.Among-map_to, WholeRuns.along, WholeRuns.event-files, WholeRuns.files_of, Targets.some_same, Targets.none_some}
+use Rattle.{std.{proofs.lemmas.Bool.{cond-false, cond-true}, specs.List.position_or_len}, echo_addr.specs.declared.address.Address.Address}
+use Rattle.{model_graph.specs.Walk.{Among, Different}, echo_links.{specs.Links.same_address, proofs.Addresses.same_address_decides}}
+use Rattle.model_run.{specs.{Event.RunEvent, Run.{Run, System, after_events, nth}}, proofs.Lists.{nth-among, yes_or_no, Among-map_to}}
+use Rattle.model_run.proofs.{WholeRuns.{along, event-files, files_of}, Targets.{some_same, none_some}}
 use Rattle.law_stations.specs.Agreement.{file_address, own_address}
 
 pub place-of : (i : ℕ) (s : System) (a : Address) (all : List System) → Different (map own_address all) → nth i all ≡ Some s → own_address s ≡ a

@@ -1,8 +1,6 @@
 -- The traces of a purge show that a purge was run.
-use Rattle.std.proofs.Common.{◌≡◌, ◌⊎◌, inl, inr, refl, sym, subst, ℕ, zero, suc, ◌<◌, ◌≤◌, arith, List, [], ◌∷◌, take}
-use Rattle.model_graph.specs.Walk.{Among}
-use Rattle.echo_filed.specs.{Filed.Filed, Stubs.stub_of}
-use Rattle.model_steps.specs.Purging.{purged}
+use Rattle.{std.proofs.Common.{◌≡◌, ◌⊎◌, inl, inr, refl, sym, subst, ℕ, zero, suc, ◌<◌, ◌≤◌, arith, List, [], ◌∷◌, take}, model_graph.specs.Walk.Among}
+use Rattle.{echo_filed.specs.{Filed.Filed, Stubs.stub_of}, model_steps.specs.Purging.purged}
 use Rattle.model_run.{specs.Lone.{LoneEvent, LoneSystem, PurgeHere, after_all_lone, after_lone}, proofs.Filings.{purged-cons, purged-empty, purged-none}}
 
 -- the event is a purge

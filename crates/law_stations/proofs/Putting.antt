@@ -1,12 +1,8 @@
 -- One station and its system change: if the net agreed with the run, it agrees with the changed run.
-use Rattle.std.proofs.Common.{◌≡◌, ◌⊎◌, inl, inr, subst, ap, ℕ, List, Some}
-use Rattle.model_graph.specs.Walk.{Among}
-use Rattle.echo_filed.specs.Filed.{Filed}
-use Rattle.base_file.specs.Base.{Base}
-use Rattle.model_steps.specs.declared.packet.Packet.{Packet}
-use Rattle.model_run.{specs.Run.{Run, System, change, nth}, proofs.{Histories.{after-then, before-then, there-then}, Lists.nth-among}}
-use Rattle.law_stations.specs.{Nets.Net, Nets.Paired, Nets.Station, Nets.with_base, Nets.with_indexes, Agreement.Agrees, Agreement.HasPosting, Agreement.HasSystem, Agreement.IsPacketFile}
-use Rattle.law_stations.proofs.Pairs.{paired-put}
+use Rattle.{std.proofs.Common.{◌≡◌, ◌⊎◌, inl, inr, subst, ap, ℕ, List, Some}, model_graph.specs.Walk.Among, echo_filed.specs.Filed.Filed}
+use Rattle.{base_file.specs.Base.Base, model_steps.specs.declared.packet.Packet.Packet, model_run.specs.Run.{Run, System, change, nth}}
+use Rattle.{model_run.proofs.{Histories.{after-then, before-then, there-then}, Lists.nth-among}, law_stations.proofs.Pairs.paired-put}
+use Rattle.law_stations.specs.{Nets.{Net, Paired, Station, with_base, with_indexes}, Agreement.{Agrees, HasPosting, HasSystem, IsPacketFile}}
 
 -- The station of a system with their changes. Packet files, deliveries and postings may be added.
 pub record Puts (net : Net) (run : Run) (i : ℕ) (next : Base) (f : System → System) (packets : List (List ℕ)) (sent : List Packet) (postings : List Filed) : Type 0 where

@@ -1,12 +1,11 @@
 -- Bytes read as one packet. A toss of them tosses messages at their beginning.
 use Rattle.std.proofs.Common.{◌≡◌, ◌⊎◌, inl, inr, sym, ◌∙◌, ℕ, ◌+◌, ◌≤◌, arith, append-nil, append_assoc, List, [], ◌∷◌, ◌++◌, length, take, Option, Some, None, Result, Ok, Err}
-use Rattle.std.specs.List.{AllByRecursion}
-use Rattle.echo_packet.specs.{declared.header.Header.Header, declared.limits.Limits.Limits, Header.header_bytes, Header.word, Message.AreMessages, Message.IsMessage, Message.Message, Message.messages_bytes, Packet.PacketOf}
-use Rattle.model_steps.specs.{SystemState.SystemState, Tossing.sender_of, Tossing.tossed}
-use Rattle.echo_toss.specs.PacketSteps.{BeginsWith, IsForUs, PacketStep, TossesAll, TossesPart, TossesSome}
-use Rattle.echo_toss.specs.declared.{fault.TossCause.TossCause, fault.TossFault.TossFault, tally.Tally.Tally}
+use Rattle.{std.specs.List.AllByRecursion, echo_packet.specs.{declared.{header.Header.Header, limits.Limits.Limits}, Header.{header_bytes, word}}}
+use Rattle.{echo_packet.specs.{Message.{AreMessages, IsMessage, Message, messages_bytes}, Packet.PacketOf}, model_steps.specs.SystemState.SystemState}
+use Rattle.model_steps.specs.Tossing.{sender_of, tossed}
+use Rattle.echo_toss.specs.{PacketSteps.{BeginsWith, IsForUs, PacketStep, TossesAll, TossesPart, TossesSome, TossFault}, declared.fault.TossCause.TossCause}
+use Rattle.echo_toss.{specs.declared.tally.Tally.Tally, proofs.{Parsed.{first_messages, one_header, one_list}, WholePackets.where_failed as where-failed}}
 use Rattle.echo_toss.specs.declared.fault.TossCause.TheVariants as stop
-use Rattle.echo_toss.proofs.{Parsed.first_messages, Parsed.one_header, Parsed.one_list, WholePackets.where_failed as where-failed}
 
 -- limits that both meet
 abbrev both : Limits → Limits → Limits

@@ -9,7 +9,7 @@ use Rattle.echo_filed.{specs.{declared.key.Key.Key, Filed.{Filed, IsFiled, key_o
 use Rattle.base_file.specs.Base.{Base, is_known}
 use Rattle.model_steps.{specs.{declared.{packet.Packet.Packet, stamp.Stamp.Stamp}, Resending.is_whole_in, Scanning.copy_to}, proofs.Copies.{all_filter, links_are_addresses}}
 use Rattle.model_run.specs.{Event.RunEvent, Orderly.count, Orderly.origin, Run.Run, Run.System, Run.after_events, Run.destination, Run.nth, States.IsState, States.files_of}
-use Rattle.model_run.specs.Repair.{AreJoined, AreLinked, AreRepairRounds, AreRounds, Besides, HasWhole, IsNoPurge, IsNoStubOn, IsNowhereStub, IsRepairRound, IsRound, RepairEvent, ResendAll, after_repair, after_repairs, is_lacking, rest_packet, resending}
+use Rattle.model_run.specs.Repair.{AreJoined, AreRepairRounds, Besides, HasWhole, IsNoPurge, IsNowhereStub, IsRepairRound, IsRound, RepairEvent, ResendAll, after_repair, after_repairs, is_lacking, rest_packet, resending}
 use Rattle.model_run.specs.Repair as model
 use Rattle.model_run.proofs.{Areas.link-among, Bases.filed-once, HarmLists.among-nth, HarmLists.nth-middle, Lists.Among-filter_to, Lists.Among-map_to, Lists.nth-append, OneMessage.has-one, Reaching.repairs-append, Reaching.rest-ends, Repair.again, Repair.enough-rounds, Repair.later-at, Repair.later-itself, Repair.rounds-everywhere, Repairs.Rounded, Repairs.calmly-later, Repairs.mended-by, Repairs.none-known, Repairs.rounds-of, Saying.rest-origin, States.each-of, Targets.some_same, TosserLaws.the_laws}
 use Rattle.law_stations.specs.Commands.{Command, Purge}

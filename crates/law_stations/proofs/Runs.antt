@@ -1,17 +1,15 @@
 -- Each command that was run on a station does what its command event may do.
 use Rattle.std.proofs.{Common.{◌≡◌, inl, inr, ◌∙◌, sym, subst, arith, ℕ, Bool, List, length, take, Option, Result, Ok, slice_get}, lemmas.List.take_all}
-use Rattle.std.specs.Prelude.{OnOk}
-use Rattle.base_file.specs.Base.{Base}
-use Rattle.disk_io.specs.Disk.{DiskState}
-use Rattle.echo_links.specs.{Links.LinkFile, LinkLines.LinksOf}
-use Rattle.cmd_store.specs.{declared.drafting.NewMessage.NewMessage, declared.answering.Answer.Answer, Coming.Coming, declared.letter.Letter.Letter, declared.mailed.MailWords.MailWords, MailPosted.Mails, MailPosted.MailsOn, declared.command_error.CommandError.CommandError, FreeSerial.PostsAs, FreeSerial.PostsAsOn}
-use Rattle.cmd_store.specs.{Purged.HoldsOrPurges, Purged.Purges, Purged.PurgesOn, Replied.Replies, Replied.RepliesOn, Tossed.Tosses, Tossed.TossesIn, Tossed.TossesTo}
-use Rattle.echo_packet.specs.declared.limits.Limits.{Limits}
-use Rattle.cmd_status.specs.{declared.fault.Fault.Fault, Devices.Device, Devices.Output}
-use Rattle.echo_toss.specs.PacketsIn.{state_in}
-use Rattle.station.specs.{Place.KeepsElsewhere, Place.Place, Running.IsKept, Running.RunsIn}
-use Rattle.law_stations.specs.{OnDisks.AsMay, OnDisks.IsAfterToss, OnDisks.IsStationAt, OnDisks.ReadsLinks, OnDisks.StaysWhereMet, OnDisks.TossesAsEvent, OnDisks.TossesAsMay, Commands.IsPacketAt, Commands.TossesAll, Commands.whole_of, Kinds.IsPurge, Kinds.IsToss, Nets.Paired, Nets.with_indexes, Disks.Disks, DiskKinds.IsMail, DiskKinds.IsPostAs, DiskKinds.IsReplyAs}
-use Rattle.law_stations.proofs.{Events.holding-or-purging, Events.mailing, Events.posting-as, Events.purging, Events.replying, Events.tossing, Leading.does, Leading.is-after, Leading.says-so, Leading.stays}
+use Rattle.{std.specs.Prelude.OnOk, base_file.specs.Base.Base, disk_io.specs.Disk.DiskState, echo_links.specs.{Links.LinkFile, LinkLines.LinksOf}}
+use Rattle.cmd_store.specs.{declared.{drafting.NewMessage.NewMessage, answering.Answer.Answer, letter.Letter.Letter, mailed.MailWords.MailWords}, Coming.Coming}
+use Rattle.cmd_store.specs.{MailPosted.{Mails, MailsOn}, declared.command_error.CommandError.CommandError, FreeSerial.{PostsAs, PostsAsOn}}
+use Rattle.cmd_store.specs.{Purged.{HoldsOrPurges, Purges, PurgesOn}, Replied.{Replies, RepliesOn}, Tossed.{Tosses, TossesIn, TossesTo}}
+use Rattle.{echo_packet.specs.declared.limits.Limits.Limits, cmd_status.specs.{declared.fault.Fault.Fault, Devices.{Device, Output}}}
+use Rattle.{echo_toss.specs.PacketsIn.state_in, station.specs.{Place.{KeepsElsewhere, Place}, Running.{IsKept, RunsIn}}}
+use Rattle.law_stations.specs.OnDisks.{AsMay, IsAfterToss, IsStationAt, ReadsLinks, StaysWhereMet, TossesAsEvent, TossesAsMay}
+use Rattle.law_stations.specs.{Commands.{IsPacketAt, TossesAll, whole_of}, Kinds.{IsPurge, IsToss}, Nets.{Paired, with_indexes}, Disks.Disks}
+use Rattle.law_stations.{specs.DiskKinds.{IsMail, IsPostAs, IsReplyAs}, proofs.Events.{holding-or-purging, mailing, posting-as, purging, replying, tossing}}
+use Rattle.law_stations.proofs.Leading.{does, is-after, says-so, stays}
 
 delivered-so : (indexes delivered : List ℕ) (stopped answer : Option Fault) (behind left : List Coming) → stopped ≡ answer → behind ≡ left
     → with_indexes (whole_of (take (length indexes) indexes) stopped behind) delivered ≡ with_indexes (whole_of indexes answer left) delivered
@@ -66,7 +64,6 @@ module _ (place : Place) (Reads : LinkFile → Type 0) (IsShut Stops : Fault →
       (known : (file : LinkFile) (files : List Coming) (base next : Base) → Tosses honest noting limits device file files base next → TossesAll files file base next)
       (answered : (file : LinkFile) (files left : List Coming) (base next : Base) (answer : Option Fault) → TossesTo honest noting limits device file base files left out out_now (Ok answer) next
       → (all : TossesAll files file base next) × (all.stopped ≡ answer) × (all.left ≡ left)) (files left : List Coming) (result : Result (Option Fault) CommandError) where
-    -- a toss that ran
     abbrev TossRuns : Type 0
     TossRuns =
         RunsIn (λ file base. TossesIn honest noting limits device file base files left out out_now result) (λ file base. TossesTo honest noting limits device file base files left out out_now result) (λ file. Tosses honest noting limits device file files)

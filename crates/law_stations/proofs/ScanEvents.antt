@@ -99,7 +99,6 @@ module _ (stamp : Stamp) (place : Place) (links outbound : List ℕ) (IsTrue : F
   opened-same c (inl alone) m off on = alone.elsewhere m off on.0 on.1
   opened-same c (inr was) m off on = old.on_disk m on.0 on.1 c was
 
-  -- the folder of packets
   abbrev Keeps : Station → Files → Disks → Type 0
   Keeps station c next = KeepsFolder IsTrue place outbound i was old d station c next
 
@@ -247,7 +246,6 @@ module _ (stamp : Stamp) (place : Place) (links outbound : List ℕ) (IsTrue : F
           ∙ commits.staging_them m off_left
           ∙ put.elsewhere m (λ of. off (inl of))
 
-      -- its folder
       folder-after : (c : Files) → CommitsScan (IsTrue put.opened) place.is_own outbound own (IsOnDisk old) (place.represents base) (place.represents next) base.cursor put.found files put.opened c
           → All (IsWholeAlone outbound own c) files → (p : Part c) → Keeps (with_base next was) c (now c p)
       folder-after c commits wholes p = as-read file says (length base.messages) c (now c p) (λ listed counted shown.

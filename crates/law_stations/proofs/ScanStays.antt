@@ -1,13 +1,11 @@
 -- A scan that met a fault leaves the station unchanged.
-use Rattle.std.{proofs.Common.{◌≡◌, ◌<◌, ◌⊎◌, ◌∙◌, subst, ℕ, List, Result, Ok, Err, arith}, specs.Prelude.IfErr}
-use Rattle.disk_io.specs.Disk.{DiskState, Files}
-use Rattle.echo_links.specs.Links.{LinkFile}
-use Rattle.cmd_status.specs.{declared.fault.Fault.Fault, Devices.Output}
-use Rattle.model_steps.specs.{PacketFiles.PacketFile, declared.stamp.Stamp.Stamp}
-use Rattle.cmd_store.specs.declared.command_error.CommandError.{CommandError, TheVariants.Met}
-use Rattle.station.specs.{Place.Place, Running.IsNotRun, Running.IsStopped}
-use Rattle.station_scan.specs.{Publishing.UnchangedExcept, Scanning.IsPutAs, Scanning.IsTaken, Scanning.IsTouched, Scanning.ScansIn, Stops.IsOfPlacing, Stops.as_scan, Stops.most, declared.scan_error.ScanError.ScanError, declared.scan_error.ScanError.TheVariants.Command}
-use Rattle.law_stations.specs.{Disks.Disks, OnDisks.IsAsBefore, OnDisks.IsLinkedOn, OnDisks.IsStationAt, OnDisks.ShowsStation, Scans.StaysWhereScanMet}
+use Rattle.{std.{proofs.Common.{◌≡◌, ◌<◌, ◌⊎◌, ◌∙◌, subst, ℕ, List, Result, Ok, Err, arith}, specs.Prelude.IfErr}, disk_io.specs.Disk.{DiskState, Files}}
+use Rattle.{echo_links.specs.Links.LinkFile, cmd_status.specs.{declared.fault.Fault.Fault, Devices.Output}, model_steps.specs.PacketFiles.PacketFile}
+use Rattle.{model_steps.specs.declared.stamp.Stamp.Stamp, cmd_store.specs.declared.command_error.CommandError.{CommandError, TheVariants.Met}}
+use Rattle.{station.specs.{Place.Place, Running.{IsNotRun, IsStopped}}, station_scan.specs.Publishing.UnchangedExcept}
+use Rattle.station_scan.specs.{Scanning.{IsPutAs, IsTaken, IsTouched, ScansIn}, Stops.{IsOfPlacing, as_scan, most}, declared.scan_error.ScanError.ScanError}
+use Rattle.{station_scan.specs.declared.scan_error.ScanError.TheVariants.Command, law_stations.specs.Disks.Disks}
+use Rattle.law_stations.specs.{OnDisks.{IsAsBefore, IsLinkedOn, IsStationAt, ShowsStation}, Scans.StaysWhereScanMet}
 
 module _ (place : Place) (outbound links : List ℕ) (i : ℕ) (d : Disks) (old new : DiskState) (at : IsStationAt place links i old d) (kept : UnchangedExcept (IsTouched place.is_own outbound) old new)
     (away : IsTouched place.is_own outbound links → ⊥) where
@@ -27,10 +25,6 @@ module _ (place : Place) (outbound links : List ℕ) (i : ℕ) (d : Disks) (old 
     put-so : {D : Type 0} (state : D → DiskState) (own : List ℕ) (packets : List PacketFile) (made : Result (List PacketFile) CommandError) → IsPutAs state place outbound own IsTrue failed old new at.shows.station.base packets made result → IsAsBefore place links i d new
     put-so state own packets (Ok files) put = absurd (subst (λ (r : Result (Unit {0}) ScanError). IfErr r (IsOfPlacing failed (IsTaken place.is_own outbound own at.shows.station.base.cursor put.found files put.opened) (most < at.shows.station.base.cursor))) is put.why)
     put-so state own packets (Err why) put = as-before put.shown (λ c left. (put.lasts c left).2.represented)
-
-    abbrev is-shut-by : ScanError → Type 0
-    is-shut-by (Command (Met why)) = IsShut why
-    is-shut-by other = Unit {0}
 
     not-run : (out out_now : Output) (stopped : Result (Unit {0}) CommandError) → result ≡ as_scan stopped → IsNotRun place IsShut old new out out_now stopped ⊎ IsStopped place Stops old new out out_now stopped
         → IsAsBefore place links i d new ⊎ IsShut fault

@@ -1,12 +1,11 @@
 -- A net goes on by a scan, and by a toss that ended well.
-use Rattle.std.proofs.Common.{◌≡◌, ◌⊎◌, ◌∙◌, ◌++◌, inl, inr, ⊎_elim, refl, sym, subst, ap, append_assoc, ℕ, List, Some, None, Result, arith}
-use Rattle.disk_io.specs.Disk.{DiskState, Files}
-use Rattle.model_steps.specs.declared.stamp.Stamp.{Stamp}
-use Rattle.station.specs.Place.{Place}
-use Rattle.station_scan.specs.{Scanning.IsTouched, declared.scan_error.ScanError.ScanError}
-use Rattle.law_stations.specs.{Commands.Scan, Disks.Disks, Nets.Station, OnDisks.LeavesElsewhere, PacketNames.IsFolderIn, PacketNames.IsListed, Scans.IsAfterCommit, Scans.IsBeforeCommit, Scans.IsCounted, Scans.ScansAsEvent, Scans.with_packets_in, Asked.GoesOnCut, Scanned.HavePackets, Scanned.IsScan, Scanned.ScanGoesOn, Scanned.ScansGoOn, Scanned.TossesGoOn, Seats.RepresentsSeat, Seats.Seat, Seats.reach, Steps.IsAllOnDisk}
-use Rattle.law_stations.proofs.{Elsewhere.some-stations, Folders.IsNoScan, Folders.folder-crash, Folders.folder-kept, Folders.folder-led, Folders.folder-then, Folders.grows-same, GoingOn.reaches-by}
-use Rattle.model_run.{specs.Run.nth, proofs.Targets.some_same}
+use Rattle.std.proofs.Common.{◌≡◌, ◌⊎◌, ◌∙◌, inl, inr, ⊎_elim, refl, sym, subst, ap, append_assoc, ℕ, List, Some, None, Result, arith}
+use Rattle.{disk_io.specs.Disk.{DiskState, Files}, model_steps.specs.declared.stamp.Stamp.Stamp, station.specs.Place.Place}
+use Rattle.{station_scan.specs.{Scanning.IsTouched, declared.scan_error.ScanError.ScanError}, law_stations.specs.{Commands.Scan, Disks.Disks, Nets.Station}}
+use Rattle.{law_stations.specs.{OnDisks.LeavesElsewhere, PacketNames.{IsFolderIn, IsListed}}, model_run.{specs.Run.nth, proofs.Targets.some_same}}
+use Rattle.law_stations.specs.{Scans.{IsAfterCommit, IsBeforeCommit, IsCounted, ScansAsEvent, with_packets_in}, Asked.GoesOnCut}
+use Rattle.law_stations.specs.{Scanned.{HavePackets, IsScan, ScanGoesOn, ScansGoOn, TossesGoOn}, Seats.{RepresentsSeat, Seat, reach}, Steps.IsAllOnDisk}
+use Rattle.law_stations.proofs.{Elsewhere.some-stations, Folders.{IsNoScan, folder-crash, folder-kept, folder-led, folder-then, grows-same}, GoingOn.reaches-by}
 
 touched : {Kept : Type 0} (place : Kept → Place) (seat : Seat Kept) (m : List ℕ) → IsTouched (place seat.kept).is_own seat.outbound m → (reach place seat).is_own m
 touched place seat m h1 = grind (arith, append_assoc)

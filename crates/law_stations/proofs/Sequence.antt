@@ -1,13 +1,10 @@
 -- One step after another.
-use Rattle.std.proofs.Common.{◌≡◌, ◌∙◌, inr, sym, subst, ap, ℕ, List, [], ◌∷◌, ◌++◌, Option, Some, None, Ok}
-use Rattle.disk_io.specs.Disk.{DiskState}
-use Rattle.echo_links.specs.LinkLines.{LinksOf}
-use Rattle.model_graph.specs.Walk.{Among}
-use Rattle.model_run.proofs.Targets.{some_same}
-use Rattle.station.specs.Place.{Place}
+use Rattle.{std.proofs.Common.{◌≡◌, ◌∙◌, inr, sym, subst, ap, ℕ, List, [], ◌∷◌, ◌++◌, Option, Some, None, Ok}, disk_io.specs.Disk.DiskState}
+use Rattle.{echo_links.specs.LinkLines.LinksOf, model_graph.specs.Walk.Among, model_run.proofs.Targets.some_same, station.specs.Place.Place}
 use Rattle.law_stations.specs.Steps.{Crashes, Ends, Goes, GoesBy, GoesOn, Happening, IsCut, MayLead, OthersChange, Step, after, after_all, commands_by, commands_of, with_command}
-use Rattle.law_stations.specs.{AnyDisks.disks_at, Commands.Command, Commands.CommandEvent, Disks.Disks, Stopping.MayHappenAll, Seats.AreNeighbours, Seats.AreSeated, Seats.Seat, Sequences.AlwaysHaveItsPackets, Sequences.HaveItsPackets, Sequences.HeadlineFromAnySequences, Sequences.SequencesAreAmong}
-use Rattle.law_stations.proofs.{AnyDisks.headline-from-any-disks, Folders.lead-keeps, Seated.changed, Seated.crashed, Seated.cut, Seated.ended}
+use Rattle.law_stations.specs.{AnyDisks.disks_at, Commands.{Command, CommandEvent}, Disks.Disks, Stopping.MayHappenAll, Seats.{AreNeighbours, AreSeated, Seat}}
+use Rattle.law_stations.specs.Sequences.{AlwaysHaveItsPackets, HaveItsPackets, HeadlineFromAnySequences, SequencesAreAmong}
+use Rattle.law_stations.proofs.{AnyDisks.headline-from-any-disks, Folders.lead-keeps, Seated.{changed, crashed, cut, ended}}
 
 module _ {D Kept : Type 0} (state : D → DiskState) (place : Kept → Place) (seats : List (Seat Kept)) (near : AreNeighbours place seats) where
   stepped : (step : Step D) (disks : List D) (d next : Disks) → AreSeated state place seats disks d → Goes state place seats step disks d next

@@ -1,19 +1,14 @@
 -- The example of a sequence.
-use Rattle.std.proofs.Common.{◌≡◌, inl, inr, refl, subst, sym, ap, ◌∙◌, ℕ, ◌<◌, ◌≤◌, zero, suc, true, false, List, [], ◌∷◌, ◌++◌, codes, length, length-append, map, None, Some, Ok, arith}
-use Rattle.std.specs.{Prelude.Bool, Prelude.bytes_eq, Prelude.if◌then◌else◌, Cmp.Lexicographic.bytes_decides}
-use Rattle.base_file.specs.Base.{Base}
-use Rattle.base_store.specs.Store.{all_scanned}
-use Rattle.disk_io.specs.Disk.{Files}
-use Rattle.disk_atomic.specs.StagingPaths.{dotted, staging_path}
-use Rattle.echo_links.specs.{Links.LinkFile, LinkLines.LinksOf}
-use Rattle.model_graph.{specs.Walk.Among, proofs.Members.Among-append_right}
+use Rattle.std.proofs.Common.{◌≡◌, inl, inr, refl, subst, sym, ap, ◌∙◌, ℕ, ◌<◌, ◌≤◌, zero, suc, true, false, List, [], ◌∷◌, ◌++◌, codes, length, length-append, map, None, Some, arith}
+use Rattle.{std.specs.{Prelude.{Bool, bytes_eq, if◌then◌else◌}, Cmp.Lexicographic.bytes_decides}, base_file.specs.Base.Base, base_store.specs.Store.all_scanned}
+use Rattle.{disk_io.specs.Disk.Files, disk_atomic.specs.StagingPaths.{dotted, staging_path}, model_graph.{specs.Walk.Among, proofs.Members.Among-append_right}}
 use Rattle.model_run.{specs.Run.{change, nth}, proofs.{HarmLists.nth-changed as changed-there, Lists.Among-map_to, Targets.{none_some, some_same}}}
-use Rattle.model_steps.specs.{PacketFiles.PacketFile, Scanning.scanned}
-use Rattle.station.specs.Place.{Place}
-use Rattle.law_stations.specs.{Commands.Post, Commands.Scan, Commands.Toss, Disks.Disks, Nets.Net, Nets.Station, Nets.bytes_of, Nets.empty_base, Nets.first_net, Nets.new_station, Nets.with_base, OverCrashes.disks_of, OnDisks.LeavesElsewhere, OnDisks.ShowsStation}
-use Rattle.law_stations.specs.{PacketNames.AreOfNet, PacketNames.IsFolderIn, PacketNames.IsPacketName, Seats.AreNeighbours, Seats.IsSeated, Seats.IsShared, Seats.RepresentsSeat, Seats.Seat, Seats.reach, Steps.HasEnded, Steps.WasCut}
+use Rattle.{model_steps.specs.{PacketFiles.PacketFile, Scanning.scanned}, law_stations.specs.{Commands.{Post, Scan, Toss}, Disks.Disks}}
+use Rattle.law_stations.specs.{Nets.{Net, Station, bytes_of, first_net, new_station, with_base}, OverCrashes.disks_of, OnDisks.LeavesElsewhere}
+use Rattle.law_stations.specs.{PacketNames.{IsFolderIn, IsPacketName}, Seats.{AreNeighbours, IsSeated, IsShared, RepresentsSeat, Seat, reach}}
+use Rattle.law_stations.specs.Steps.{HasEnded, WasCut}
 use Rattle.law_stations.specs.SequenceExample.{ExampleDisk, Ran, Rests, Story, StoryGoesOn, base_path, example_disks, example_place, example_state, files_with, first_seat, link_path, no_packet, only_packet, second_seat}
-use Rattle.law_stations.proofs.{Elsewhere.change-other, Moving.scans-less, PacketNames.AreNumbered, PacketNames.are-numbered, PacketNames.long, PacketNames.one-number, Whole.scan-far}
+use Rattle.law_stations.proofs.{Elsewhere.change-other, Moving.scans-less, PacketNames.{AreNumbered, are-numbered, long, one-number}, Whole.scan-far}
 
 outside : link_path ≡ base_path → ⊥
 outside is = absurd (omega (arith, ap length is))
@@ -41,7 +36,6 @@ if-none : (b : Bool) (bytes : List ℕ) → (b ≡ true → ⊥) → (if b then 
 if-none true bytes not = absurd (not refl)
 if-none false bytes not = refl
 
--- no packet is there
 no-packets : (bases : List Base) (i : ℕ) (links : List ℕ) (n : ℕ) (station : Station) (d : Disks) → IsFolderIn (example_place bases) [] i station (files_with links n no_packet) d
 no-packets bases i links n station d file says =
     let own = dotted file.system in
@@ -64,7 +58,6 @@ module _ (s : Story) where
   abbrev seats : List (Seat (List Base))
   seats = first_seat s ∷ (second_seat s ∷ [])
 
-  -- each station has a disk
   disk-of : (i : ℕ) (seat : Seat (List Base)) → nth i seats ≡ Some seat → seat.disk ≡ i
   disk-of zero seat there = ap (λ (x : Seat (List Base)). x.disk) (sym (some_same there))
   disk-of (suc zero) seat there = ap (λ (x : Seat (List Base)). x.disk) (sym (some_same there))

@@ -1,13 +1,12 @@
 -- The contents of nets without crashes are those of the disks over crashes.
 use Rattle.std.{proofs.Common.{◌≡◌, inl, inr, refl, sym, subst, ap, ◌∙◌, ℕ, ◌+◌, ◌≤◌, arith, List, [], ◌∷◌, map, Some}, specs.Prelude.if◌then◌else◌}
-use Rattle.echo_addr.specs.declared.address.Address.{Address}
-use Rattle.model_graph.specs.Walk.{Among, Different}
-use Rattle.echo_links.specs.Links.{LinkFile, same_address}
-use Rattle.echo_filed.specs.{declared.key.Key.Key, Filed.Filed}
-use Rattle.model_steps.specs.declared.packet.Packet.{Packet}
+use Rattle.{echo_addr.specs.declared.address.Address.Address, model_graph.specs.Walk.{Among, Different}, echo_links.specs.Links.{LinkFile, same_address}}
+use Rattle.{echo_filed.specs.{declared.key.Key.Key, Filed.Filed}, model_steps.specs.declared.packet.Packet.Packet}
 use Rattle.model_run.{specs.{Orderly.{copies, count, sent_count}, Run.{destination, nth}}, proofs.{Lists.nth-among, HarmLists.{among-nth, nth-map}}}
-use Rattle.law_stations.specs.{Commands.Command, Commands.CommandEvent, Commands.Purge, OverCrashes.HasNet, OverCrashes.IsLike, OverCrashes.IsLikeEvent, OverCrashes.SoundOverCrashes, Nets.Net, Nets.Paired, Nets.Station, Nets.first_net, Disks.Disks, Disks.first_disks, InOrder.IsSound, InOrder.IsUnchanged, InOrder.ReadsAs, InOrder.StationHolds, InOrder.WasPurged}
-use Rattle.law_stations.proofs.{Headline.reads-once, Pairs.paired-among, Pairs.paired-back, Pairs.paired-nth, Sound.nets-are-sound, Counting.IsItem, Counting.picked-total, Counting.total, EachCommand.crashes-from, EachCommand.first-tracks}
+use Rattle.law_stations.specs.{Commands.{Command, CommandEvent, Purge}, OverCrashes.{HasNet, IsLike, IsLikeEvent, SoundOverCrashes}}
+use Rattle.law_stations.{specs.{Nets.{Net, Paired, Station, first_net}, Disks.{Disks, first_disks}}, proofs.EachCommand.{crashes-from, first-tracks}}
+use Rattle.law_stations.{specs.InOrder.{IsSound, IsUnchanged, ReadsAs, StationHolds, WasPurged}, proofs.Headline.reads-once}
+use Rattle.law_stations.proofs.{Pairs.{paired-among, paired-back, paired-nth}, Sound.nets-are-sound, Counting.{IsItem, picked-total, total}}
 
 pub like-purge : (command : Command) → IsLike command Purge → command ≡ Purge
 like-purge command like = grind arith

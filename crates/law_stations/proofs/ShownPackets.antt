@@ -1,7 +1,5 @@
 -- Packet files that a disk shows are those of a net.
-use Rattle.std.proofs.{Common.ℕ, Common.Bool, Common.List, Common.[], Common.◌∷◌, Common.map, Common.arith, lemmas.Bool.le-ltb}
-use Rattle.disk_io.specs.Disk.{Files}
-use Rattle.station.specs.PacketsOnDisk.{coming_at}
+use Rattle.{std.proofs.{Common.{ℕ, Bool, List, [], ◌∷◌, map, arith}, lemmas.Bool.le-ltb}, disk_io.specs.Disk.Files, station.specs.PacketsOnDisk.coming_at}
 use Rattle.law_stations.specs.{Commands.IsPacketAt, Nets.Paired, ShownPackets.IsShownAt}
 
 one-shown : (packets : List (List ℕ)) (seen : Files) (k : ℕ) (usable : Bool) (path : List ℕ) → IsShownAt packets seen k usable path → IsPacketAt packets k (coming_at seen usable path)

@@ -1,14 +1,13 @@
 -- A net that agrees with a run is sound.
-use Rattle.std.proofs.Common.{◌≡◌, ◌⊎◌, inl, inr, refl, sym, subst, ap, ◌∙◌, ℕ, ◌≤◌, List, [], ◌∷◌, Some}
-use Rattle.model_graph.specs.Walk.{Among}
-use Rattle.echo_links.specs.Links.{IsFile, LinkFile}
-use Rattle.echo_filed.specs.Filed.{Filed, key_of}
-use Rattle.model_steps.specs.{declared.packet.Packet.Packet, SystemState.SystemState}
-use Rattle.model_run.specs.{Run.Run, Run.System, Run.after_events, Run.fresh, Run.nth, Run.start, Fits.FilesFit, Orderly.SameContent, Orderly.count, Orderly.tag_of, Keeping.Content}
-use Rattle.model_run.proofs.{Areas.key-tag, Bases.Kept, EachSystem.run-kept, Lists.nth-among, Lists.Among-map_from, Origins.run-traced, WholeRuns.run-ok, TosserLaws.the_laws, Bases.filed-once}
-use Rattle.cmd_status.specs.Inputs.{AreLinkFiles}
-use Rattle.law_stations.specs.{InOrder.IsSound, InOrder.IsUnchanged, InOrder.NetsAreSound, InOrder.ReadsAs, InOrder.StationHolds, InOrder.WasPurged, Agreement.Agrees, Agreement.HasSystem, Agreement.IsPacketFile, Agreement.limits_of, Commands.CommandEvent, Nets.Net}
-use Rattle.law_stations.proofs.{EachEvent.LedAll, EachEvent.led-from-first, Pairs.paired-among, Pairs.paired-nth, Systems.file-fits, Systems.said-once, Systems.says-so, Unpurged.AsFiledAt, Unpurged.IsAsFiled, Unpurged.kept-where}
+use Rattle.{std.proofs.Common.{◌≡◌, ◌⊎◌, inl, inr, refl, sym, subst, ap, ◌∙◌, ℕ, ◌≤◌, List, [], ◌∷◌, Some}, model_graph.specs.Walk.Among}
+use Rattle.{echo_links.specs.Links.{IsFile, LinkFile}, echo_filed.specs.Filed.{Filed, key_of}, model_steps.specs.declared.packet.Packet.Packet}
+use Rattle.{model_steps.specs.SystemState.SystemState, model_run.specs.{Run.{Run, System, after_events, fresh, nth, start}, Fits.FilesFit}}
+use Rattle.model_run.{specs.{Orderly.{SameContent, count, tag_of}, Keeping.Content}, proofs.{Areas.key-tag, Bases.{Kept, filed-once}, EachSystem.run-kept}}
+use Rattle.model_run.proofs.{Lists.{nth-among, Among-map_from}, Origins.run-traced, WholeRuns.run-ok, TosserLaws.the_laws}
+use Rattle.{cmd_status.specs.Inputs.AreLinkFiles, law_stations.specs.InOrder.{IsSound, IsUnchanged, NetsAreSound, ReadsAs, StationHolds, WasPurged}}
+use Rattle.law_stations.specs.{Agreement.{Agrees, HasSystem, IsPacketFile, limits_of}, Commands.CommandEvent, Nets.Net}
+use Rattle.law_stations.proofs.{EachEvent.{LedAll, led-from-first}, Pairs.{paired-among, paired-nth}, Systems.{file-fits, said-once, says-so}}
+use Rattle.law_stations.proofs.Unpurged.{AsFiledAt, IsAsFiled, kept-where}
 
 pub reads : (bytes : List ℕ) (p : Packet) → IsPacketFile bytes p → ReadsAs bytes p
 reads bytes p is = (limits_of bytes, is.packet)

@@ -1,15 +1,13 @@
 -- The contents of one station stay.
 use Rattle.std.proofs.Common.{◌≡◌, ◌⊎◌, inl, inr, refl, sym, subst, ap, ◌∙◌, ℕ, zero, suc, ◌<◌, ◌≤◌, arith, List, [], ◌∷◌, ◌++◌, map, Some}
-use Rattle.std.proofs.lemmas.List.{map-append}
-use Rattle.model_graph.{specs.Walk.Among, proofs.Members.{Among-append_cases, Among-append_left, Among-append_right}}
-use Rattle.echo_packet.specs.Packet.{packet_bytes}
-use Rattle.echo_links.specs.Links.{IsFile, LinkFile}
-use Rattle.echo_filed.specs.{Filed.Filed, Stubs.stub_of}
-use Rattle.model_steps.specs.{declared.packet.Packet.Packet, Purging.purged}
-use Rattle.model_run.specs.{Run.nth, Lone.LoneEvent, Lone.LoneSystem, Lone.lone_run}
-use Rattle.model_run.proofs.{Filings.purged-cons, Filings.purged-empty, Filings.purged-none, Filings.run-left, Filings.events-purged, Filings.run-append, Filings.run-lasts, Lists.nth-append, Targets.some_same, Targets.none_some}
-use Rattle.law_stations.specs.{Agreement.IsPacketFile, Nets.Paired, AloneInOrder.AloneIsInOrder, AloneInOrder.AloneStays, AloneInOrder.ShowsStill, LoneStations.LoneCommand, LoneStations.LoneStation, LoneStations.PurgeAlone}
-use Rattle.law_stations.proofs.{Systems.file-fits, Purgings.purge-among, Alone.IsLone, LoneShown.in-order, LoneShown.stood, Steps.AreOfCommands, Steps.commands-lone, Steps.run-lone}
+use Rattle.{std.proofs.lemmas.List.map-append, model_graph.{specs.Walk.Among, proofs.Members.{Among-append_cases, Among-append_left, Among-append_right}}}
+use Rattle.{echo_packet.specs.Packet.packet_bytes, echo_links.specs.Links.{IsFile, LinkFile}, echo_filed.specs.{Filed.Filed, Stubs.stub_of}}
+use Rattle.{model_steps.specs.{declared.packet.Packet.Packet, Purging.purged}, model_run.specs.{Run.nth, Lone.{LoneEvent, LoneSystem, lone_run}}}
+use Rattle.model_run.proofs.{Filings.{purged-cons, purged-empty, purged-none, run-left, events-purged, run-append, run-lasts}, Lists.nth-append}
+use Rattle.{model_run.proofs.Targets.{some_same, none_some}, law_stations.specs.{Agreement.IsPacketFile, Nets.Paired}}
+use Rattle.law_stations.specs.{AloneInOrder.{AloneIsInOrder, AloneStays, ShowsStill}, LoneStations.{LoneCommand, LoneStation, PurgeAlone}}
+use Rattle.law_stations.proofs.{Systems.file-fits, Purgings.purge-among, Alone.IsLone, LoneShown.{in-order, stood}}
+use Rattle.law_stations.proofs.Steps.{AreOfCommands, commands-lone, run-lone}
 
 -- the stub at an index
 abbrev IsLeftAt : ℕ → ℕ → Filed → Filed → Type 0

@@ -1,16 +1,15 @@
 -- A command on one station is some events of the system by itself.
 use Rattle.std.proofs.{Common.{arith, ◌≡◌, inl, inr, refl, sym, subst, ap, ℕ, true, List, [], ◌∷◌, ◌++◌, length, Ok}, lemmas.List.{append-nil, append_assoc}}
-use Rattle.std.specs.Prelude.{Bool, false, if◌then◌else◌}
-use Rattle.model_graph.{specs.Walk.Among, proofs.Members.{Among-append_cases, Among-append_left, Among-append_right}}
-use Rattle.echo_links.specs.{Links.LinkFile, LinkLines.LinksOf}
-use Rattle.model_steps.specs.{declared.stamp.Stamp.Stamp, Scanning.scanned, Stamps.is_stamp, SystemState.SystemState}
-use Rattle.echo_toss.specs.PacketsIn.{state_in}
-use Rattle.model_run.specs.{Run.Run, Run.change, Run.nth, Run.scanning_at, Run.state_of, Lone.IsOfPackets, Lone.LoneEvent, Lone.LoneSystem, Lone.PostHere, Lone.PurgeHere, Lone.ScanHere, Lone.TossHere, Lone.after_lone, Lone.lone_run, Lone.with_scanned, Lone.with_system}
-use Rattle.cmd_store.specs.{Coming.Coming, Drafts.draft_given}
+use Rattle.{std.specs.Prelude.{Bool, false, if◌then◌else◌}, model_graph.specs.Walk.Among, model_run.specs.Run.{Run, change, nth, scanning_at, state_of}}
+use Rattle.{model_graph.proofs.Members.{Among-append_cases, Among-append_left, Among-append_right}, echo_links.specs.{Links.LinkFile, LinkLines.LinksOf}}
+use Rattle.{model_steps.specs.{declared.stamp.Stamp.Stamp, Scanning.scanned, Stamps.is_stamp, SystemState.SystemState}, echo_toss.specs.PacketsIn.state_in}
+use Rattle.model_run.specs.Lone.{IsOfPackets, LoneEvent, LoneSystem, PostHere, PurgeHere, ScanHere, TossHere, after_lone, lone_run, with_scanned, with_system}
+use Rattle.{model_run.proofs.Filings.run-file, cmd_store.specs.{Coming.Coming, Drafts.draft_given}}
 use Rattle.law_stations.specs.LoneStations.{HappenAlone, LeadsAlone, LoneCommand, LoneStation, NothingCame, PostAlone, PurgeAlone, ScanAlone, TossAny, TossesAny, held_in, lone_station_at_first, tossed_whole}
-use Rattle.law_stations.specs.{Agreement.Agrees, Agreement.HasSystem, Agreement.IsPacketFile, Nets.Paired, Nets.Station, Nets.with_left}
-use Rattle.law_stations.proofs.{Tosses.IsTossFrom, Tosses.IsTossedBy, Tosses.TossesFrom, Tosses.files-tossed, Tosses.front-plain, Tosses.whole-first, FileRuns.TossedFiles, FileRuns.tossed-all, FileRuns.wholes, OfEvents.post-agrees, OfEvents.purge-agrees, OfEvents.scan-agrees, Putting.puts-agree, Systems.file-fits, Systems.one-file, Purgings.IsPurge, Alone.IsLone, Alone.first-lone, Alone.lone-more, Alone.run_alone}
-use Rattle.model_run.proofs.Filings.{run-file}
+use Rattle.law_stations.specs.{Agreement.{Agrees, HasSystem, IsPacketFile}, Nets.{Paired, Station, with_left}}
+use Rattle.law_stations.proofs.{Tosses.{IsTossFrom, IsTossedBy, TossesFrom, files-tossed, front-plain, whole-first}, FileRuns.{TossedFiles, tossed-all, wholes}}
+use Rattle.law_stations.proofs.{OfEvents.{post-agrees, purge-agrees, scan-agrees}, Putting.puts-agree, Systems.{file-fits, one-file}, Purgings.IsPurge}
+use Rattle.law_stations.proofs.Alone.{IsLone, first-lone, lone-more, run_alone}
 
 -- an event that is no toss
 abbrev IsNoToss : LoneEvent → Type 0

@@ -1,10 +1,7 @@
 -- The system of a station: both have the same contents.
-use Rattle.std.proofs.Common.{◌≡◌, sym, subst, ℕ, List, Ok, arith}
-use Rattle.echo_links.{specs.{Links.{IsFile, LinkFile}, LinkLines.LinksOf}, proofs.{LinkAnswers.link_only, LinkFiles.file_is_file}}
-use Rattle.echo_filed.specs.Filed.{Filed}
-use Rattle.model_steps.specs.SystemState.{SystemState}
-use Rattle.model_run.specs.Run.{System, state_of}
-use Rattle.law_stations.specs.{Agreement.HasSystem, InOrder.StationSays, Nets.Station}
+use Rattle.{std.proofs.Common.{◌≡◌, sym, subst, ℕ, List, Ok, arith}, echo_links.specs.{Links.{IsFile, LinkFile}, LinkLines.LinksOf}}
+use Rattle.{echo_links.proofs.{LinkAnswers.link_only, LinkFiles.file_is_file}, echo_filed.specs.Filed.Filed, model_steps.specs.SystemState.SystemState}
+use Rattle.{model_run.specs.Run.{System, state_of}, law_stations.specs.{Agreement.HasSystem, InOrder.StationSays, Nets.Station}}
 
 pub one-file : (bytes : List ℕ) (file other : LinkFile) → LinksOf bytes (Ok file) → LinksOf bytes (Ok other) → file ≡ other
 one-file bytes file other h g = grind (arith, link_only)

@@ -1,16 +1,12 @@
 -- A system after the toss of messages of one sender.
 use Rattle.std.proofs.Common.{◌≡◌, ap, inl, inr, refl, sym, subst, ◌∙◌, ℕ, ◌^◌, ◌<◌, arith, append-nil, List, [], ◌∷◌, ◌++◌, Option, Some, None}
 use Rattle.std.{proofs.lemmas.Bool.{cases_Bool, cond-false, cond-true}, specs.{Prelude.option_to_list, List.AllByRecursion}}
-use Rattle.echo_addr.specs.declared.address.Address.{Address}
-use Rattle.model_graph.{specs.Walk.Among, proofs.Members.{Among-append_cases, Among-append_left}}
-use Rattle.echo_packet.specs.Message.{IsMessage, Message}
-use Rattle.echo_links.specs.Links.{IsFile, LinkFile}
-use Rattle.echo_filed.specs.Filed.{Filed, HasSmallSender}
-use Rattle.base_file.specs.Base.{IsBase}
-use Rattle.model_steps.specs.{Tossing.sender_of, Tossing.received, Tossing.tossed, Tossing.tossing, Tossing.zone_of, SystemState.SystemState}
-use Rattle.model_steps.proofs.{Received.tossing_received, Kept.tossing_keeps}
-use Rattle.model_run.{specs.Run.{System, filing, state_of, tossing_at}, proofs.{StandingRuns.tossing-state, Targets.none_some}}
-use Rattle.law_stations.{specs.Agreement.HasPosting, proofs.{Readings.TossesFront, Unpurged.{IsAsFiled, tossing-as_filed}}}
+use Rattle.{echo_addr.specs.declared.address.Address.Address, model_graph.{specs.Walk.Among, proofs.Members.{Among-append_cases, Among-append_left}}}
+use Rattle.{echo_packet.specs.Message.{IsMessage, Message}, echo_links.specs.Links.{IsFile, LinkFile}, echo_filed.specs.Filed.{Filed, HasSmallSender}}
+use Rattle.{base_file.specs.Base.IsBase, model_steps.specs.{Tossing.{sender_of, received, tossed, tossing, zone_of}, SystemState.SystemState}}
+use Rattle.{model_steps.proofs.{Received.tossing_received, Kept.tossing_keeps}, model_run.specs.Run.{System, filing, state_of, tossing_at}}
+use Rattle.{model_run.proofs.{StandingRuns.tossing-state, Targets.none_some}, law_stations.{specs.Agreement.HasPosting, proofs.Readings.TossesFront}}
+use Rattle.law_stations.proofs.Unpurged.{IsAsFiled, tossing-as_filed}
 
 -- A system made from another, with this state. It has the same link file and all messages filed there. It has posted
 -- nothing since, and has a base. If the other had all messages as they were filed, so has it.

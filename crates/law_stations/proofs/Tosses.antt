@@ -1,19 +1,14 @@
 -- A toss of any files is a toss of messages in them.
 use Rattle.std.proofs.Common.{◌≡◌, inl, inr, refl, sym, subst, ap, ◌∙◌, ℕ, zero, suc, arith, List, [], ◌∷◌, ◌++◌, length, take, Option, Some, None}
-use Rattle.std.{proofs.lemmas.List.take_all}
-use Rattle.echo_addr.specs.declared.address.Address.{Address}
-use Rattle.model_graph.{specs.Walk.Among, proofs.Members.{Among-append_cases, Among-append_left, Among-append_right}}
-use Rattle.echo_packet.specs.{declared.header.Header.Header, declared.limits.Limits.Limits, Message.HasNoZero, Message.IsMessage, Message.Message, Packet.PacketOf}
-use Rattle.echo_links.specs.Links.{IsFile, LinkFile}
-use Rattle.base_file.specs.Base.{IsBase}
-use Rattle.model_steps.specs.{SystemState.SystemState, Tossing.sender_of}
-use Rattle.echo_toss.specs.PacketSteps.{BeginsWith}
-use Rattle.model_run.specs.{Lone.LoneEvent, Lone.LoneSystem, Lone.TossHere, Lone.after_all_lone, Lone.with_system, Run.System, Run.state_of, Run.tossing_at}
-use Rattle.cmd_status.specs.declared.fault.Fault.{Fault}
-use Rattle.cmd_store.specs.Coming.{Coming, Fails, Holds, Unknown}
-use Rattle.law_stations.proofs.{FileRuns.IsPartly, FileRuns.TossedFiles, FileRuns.wholes, Readings.TossesFront, Tossed.Takes, Tossed.takes-both, Tossed.takes-front, Tossed.takes-none}
-use Rattle.model_run.proofs.{Filings.events-append, States.each-of}
-use Rattle.law_stations.specs.{AloneInOrder.FaultlessTossIsWhole, LoneStations.AreAnyFiles, LoneStations.held_in, LoneStations.tossed_whole}
+use Rattle.{std.proofs.lemmas.List.take_all, echo_addr.specs.declared.address.Address.Address, model_graph.specs.Walk.Among}
+use Rattle.{model_graph.proofs.Members.{Among-append_cases, Among-append_left, Among-append_right}, echo_packet.specs.declared.header.Header.Header}
+use Rattle.echo_packet.specs.{declared.limits.Limits.Limits, Message.{HasNoZero, IsMessage, Message}, Packet.PacketOf}
+use Rattle.{echo_links.specs.Links.{IsFile, LinkFile}, base_file.specs.Base.IsBase, model_steps.specs.{SystemState.SystemState, Tossing.sender_of}}
+use Rattle.{echo_toss.specs.PacketSteps.BeginsWith, model_run.specs.Lone.{LoneEvent, LoneSystem, TossHere, after_all_lone, with_system}}
+use Rattle.{model_run.{specs.Run.{System, state_of, tossing_at}, proofs.{Filings.events-append, States.each-of}}, cmd_status.specs.declared.fault.Fault.Fault}
+use Rattle.{cmd_store.specs.Coming.{Coming, Fails, Holds, Unknown}, law_stations.proofs.{FileRuns.{IsPartly, TossedFiles, wholes}, Readings.TossesFront}}
+use Rattle.law_stations.{proofs.Tossed.{Takes, takes-both, takes-front, takes-none}, specs.AloneInOrder.FaultlessTossIsWhole}
+use Rattle.law_stations.specs.LoneStations.{AreAnyFiles, held_in, tossed_whole}
 
 pub front-plain : (bytes : List ℕ) (limits : Limits) (header : Header) (messages : List Message) → BeginsWith limits header messages bytes
     → (packed : Message) → Among packed messages → HasNoZero packed.text

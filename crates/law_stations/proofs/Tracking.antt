@@ -1,9 +1,7 @@
 -- The disks, and a net without crashes that agrees with them.
 use Rattle.std.proofs.Common.{◌≡◌, ◌⊎◌, inl, inr, refl, sym, ap, ◌∙◌, ℕ, ◌+◌, ◌≤◌, ◌<◌, true, false, List, [], ◌∷◌, ◌++◌, length, map, Option, Some, None, arith}
-use Rattle.model_graph.specs.Walk.{Among}
-use Rattle.model_run.{specs.Run.nth, proofs.HarmLists.nth-map}
-use Rattle.law_stations.specs.{Disks.StagingFile, Disks.Disks, Disks.HasCursor, Disks.cursor_of, Disks.cursors, Nets.Net, Nets.Paired, Nets.Station}
-use Rattle.law_stations.proofs.Counting.{IsItem, below, times, waits}
+use Rattle.{model_graph.specs.Walk.Among, model_run.{specs.Run.nth, proofs.HarmLists.nth-map}, law_stations.proofs.Counting.{IsItem, below, times, waits}}
+use Rattle.law_stations.specs.{Disks.{StagingFile, Disks, HasCursor, cursor_of, cursors}, Nets.{Net, Paired, Station}}
 
 -- A staging file, and the index of the packet that waits in it for its name. A file without an index has its name, or
 -- belongs to a scan that did not move the cursor.

@@ -1,11 +1,8 @@
 -- A base that was never purged has its messages as they were filed.
 use Rattle.std.proofs.Common.{◌≡◌, ◌⊎◌, inl, inr, refl, sym, subst, ap, ◌∙◌, ℕ, zero, suc, List, [], ◌∷◌, ◌++◌, take, Option, Some, None, arith}
-use Rattle.echo_addr.specs.declared.address.Address.{Address}
-use Rattle.model_graph.specs.Walk.{Among}
-use Rattle.echo_packet.specs.Message.{Message}
-use Rattle.echo_filed.specs.{Filed.Filed, Stubs.stub_of}
-use Rattle.model_steps.specs.Tossing.{tossing}
-use Rattle.model_run.{specs.Run.{System, change, filing, nth, tossing_at}, proofs.{Bases.{IsKept, Kept}, Lists.nth-change}}
+use Rattle.{echo_addr.specs.declared.address.Address.Address, model_graph.specs.Walk.Among, echo_packet.specs.Message.Message, echo_filed.specs.Filed.Filed}
+use Rattle.{echo_filed.specs.Stubs.stub_of, model_steps.specs.Tossing.tossing, model_run.specs.Run.{System, change, filing, nth, tossing_at}}
+use Rattle.model_run.proofs.{Bases.{IsKept, Kept}, Lists.nth-change}
 
 -- the system has its messages as they were filed
 abbrev pub IsAsFiled : System → Type 0

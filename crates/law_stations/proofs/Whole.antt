@@ -1,12 +1,10 @@
 -- The effects of commands without a stop are among their possible effects.
 use Rattle.std.proofs.Common.{◌≡◌, inl, inr, refl, sym, subst, ap, ◌∙◌, ℕ, ◌<◌, arith, append-nil, append_assoc, List, [], ◌∷◌, ◌++◌, length, map}
-use Rattle.std.proofs.lemmas.List.{take_all}
-use Rattle.model_graph.specs.Walk.{Among}
-use Rattle.model_steps.specs.{declared.stamp.Stamp.Stamp, PacketFiles.PacketFile}
-use Rattle.base_store.specs.Store.{all_scanned}
-use Rattle.law_stations.specs.Commands.{Command, CommandEvent, Happen, Leads, Post, Purge, Scan, Scans, Toss, Tosses}
-use Rattle.law_stations.specs.{Stopping.EndsOne, Stopping.EndsSome, Stopping.PartialEffect, Stopping.MayHappen, Stopping.MayHappenAll, Stopping.Moves, Stopping.ScansFar, Stopping.staging_of, Nets.Net, Nets.bytes_of, Nets.with_left, Disks.StagingFile, Disks.Disks, Disks.HasCursor, Disks.with_packet, OverCrashes.disks_of}
-use Rattle.law_stations.proofs.{Moving.now-cursor, Moving.scans-less, Tracking.has-cursor}
+use Rattle.{std.proofs.lemmas.List.take_all, model_graph.specs.Walk.Among, model_steps.specs.{declared.stamp.Stamp.Stamp, PacketFiles.PacketFile}}
+use Rattle.{base_store.specs.Store.all_scanned, law_stations.specs.Commands.{Command, CommandEvent, Happen, Leads, Post, Purge, Scan, Scans, Toss, Tosses}}
+use Rattle.law_stations.specs.Stopping.{EndsOne, EndsSome, PartialEffect, MayHappen, MayHappenAll, Moves, ScansFar, staging_of}
+use Rattle.law_stations.specs.{Nets.{Net, bytes_of, with_left}, Disks.{StagingFile, Disks, HasCursor, with_packet}, OverCrashes.disks_of}
+use Rattle.law_stations.proofs.{Moving.{now-cursor, scans-less}, Tracking.has-cursor}
 
 -- the net with more packet files
 abbrev pub with_packets : Net → List (List ℕ) → Net

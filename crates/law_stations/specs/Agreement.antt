@@ -1,15 +1,9 @@
 -- A net of stations and a run of systems that agree.
-use Rattle.std.specs.Prelude.{◌≡◌, ◌≢◌, ◌⊎◌, ℕ, List, [], ◌∷◌, ◌++◌, map, length, None, Ok}
-use Rattle.echo_addr.specs.declared.address.Address.{Address}
-use Rattle.model_graph.specs.Walk.{Among, Different}
-use Rattle.echo_packet.specs.{Packet.PacketOf, declared.limits.Limits.Limits}
-use Rattle.echo_links.specs.{Links.LinkFile, LinkLines.LinksOf}
-use Rattle.echo_filed.specs.Filed.{Filed}
-use Rattle.base_file.specs.Base.{Base, IsBase}
-use Rattle.model_steps.specs.declared.packet.Packet.{Packet}
-use Rattle.model_run.specs.{Event.Delivery, Event.PartDelivery, Event.Posting, Event.Purging, Event.RunEvent, Event.Scanning, Run.Run, Run.System, Run.after_events, Run.run_of}
-use Rattle.cmd_status.specs.Inputs.{AreLinkFiles}
-use Rattle.cmd_store.specs.Drafts.{draft_given}
+use Rattle.{std.specs.Prelude.{◌≡◌, ◌≢◌, ◌⊎◌, ℕ, List, [], ◌∷◌, ◌++◌, map, length, None, Ok}, echo_addr.specs.declared.address.Address.Address}
+use Rattle.{model_graph.specs.Walk.{Among, Different}, echo_packet.specs.{Packet.PacketOf, declared.limits.Limits.Limits}, echo_links.specs.Links.LinkFile}
+use Rattle.{echo_links.specs.LinkLines.LinksOf, echo_filed.specs.Filed.Filed, base_file.specs.Base.{Base, IsBase}}
+use Rattle.{model_steps.specs.declared.packet.Packet.Packet, model_run.specs.Event.{Delivery, PartDelivery, Posting, Purging, RunEvent, Scanning}}
+use Rattle.{model_run.specs.Run.{Run, System, after_events, run_of}, cmd_status.specs.Inputs.AreLinkFiles, cmd_store.specs.Drafts.draft_given}
 use Rattle.law_stations.specs.{Commands.{Command, CommandEvent, Happen, Happens, Post, Purge, Scan, Toss}, Nets.{Net, Paired, Station, first_net}}
 
 -- The messages and the cursor of a system.

@@ -1,18 +1,12 @@
 -- The promise about one station, for any bytes that it received.
-use Rattle.std.specs.Prelude.{◌≡◌, ℕ, ◌⊎◌, ◌<◌, ◌≤◌, false, List, [], ◌∷◌, ◌++◌, drop, take, None, Ok, Some}
-use Rattle.echo_addr.specs.declared.address.Address.{Address}
-use Rattle.model_graph.specs.Walk.{Among}
-use Rattle.echo_packet.specs.{declared.header.Header.Header, declared.limits.Limits.Limits, Message.Message, Packet.PacketOf}
-use Rattle.echo_text.specs.Refusal.{text_refusal}
-use Rattle.echo_links.specs.{Links.LinkFile, LinkLines.LinksOf}
-use Rattle.base_file.specs.Base.{IsBase}
-use Rattle.echo_filed.specs.{declared.key.Key.Key, Filed.Filed, Filed.key_of, Stubs.is_stub, Stubs.stub_of}
-use Rattle.model_steps.specs.{declared.packet.Packet.Packet, Tossing.received, Tossing.sender_of}
-use Rattle.echo_toss.specs.PacketSteps.{BeginsWith}
-use Rattle.model_run.specs.{Exports.IsSentCopy, Orderly.copies, Orderly.count, Orderly.sent_count, Run.destination, Run.nth, Owed.IsFromLink, Owed.IsOwed}
-use Rattle.cmd_store.specs.Coming.{Coming}
+use Rattle.{std.specs.Prelude.{◌≡◌, ℕ, ◌⊎◌, ◌<◌, ◌≤◌, false, List, [], ◌∷◌, ◌++◌, drop, take, None, Ok, Some}, echo_addr.specs.declared.address.Address.Address}
+use Rattle.{model_graph.specs.Walk.Among, echo_packet.specs.{declared.{header.Header.Header, limits.Limits.Limits}, Message.Message, Packet.PacketOf}}
+use Rattle.{echo_text.specs.Refusal.text_refusal, echo_links.specs.{Links.LinkFile, LinkLines.LinksOf}, base_file.specs.Base.IsBase}
+use Rattle.{echo_filed.specs.{declared.key.Key.Key, Filed.{Filed, key_of}, Stubs.{is_stub, stub_of}}, model_steps.specs.declared.packet.Packet.Packet}
+use Rattle.{model_steps.specs.Tossing.{received, sender_of}, echo_toss.specs.PacketSteps.BeginsWith, model_run.specs.Exports.IsSentCopy}
+use Rattle.{model_run.specs.{Orderly.{copies, count, sent_count}, Run.{destination, nth}, Owed.{IsFromLink, IsOwed}}, cmd_store.specs.Coming.Coming}
 use Rattle.law_stations.specs.LoneStations.{HappenAlone, LoneCommand, LoneStation, PurgeAlone, TossesAny, held_in, lone_station_at_first}
-use Rattle.law_stations.specs.{InOrder.ReadsAs, InOrder.StationSays, Nets.Paired, Nets.Station}
+use Rattle.law_stations.specs.{InOrder.{ReadsAs, StationSays}, Nets.{Paired, Station}}
 
 -- The bytes begin with a packet.
 pub record HoldsPacket (bytes : List ℕ) (p : Packet) : Type 0 where

@@ -1,11 +1,9 @@
 -- The contract of a command at a station, as a statement about the steps of a net.
-use Rattle.std.specs.Prelude.{◌≡◌, ℕ, Bool, List, Option, Some, None, Result, Ok}
-use Rattle.base_file.specs.Base.{Base}
-use Rattle.disk_io.specs.Disk.{DiskState}
-use Rattle.cmd_store.specs.declared.{drafting.NewMessage.NewMessage, answering.Answer.Answer, letter.Letter.Letter, mailed.MailWords.MailWords, command_error.CommandError.CommandError}
-use Rattle.cmd_status.specs.declared.fault.Fault.{Fault}
-use Rattle.station.specs.Place.{Place}
-use Rattle.law_stations.specs.{Commands.Command, Kinds.IsPurge, Kinds.IsToss, Disks.Disks, DiskKinds.IsMail, DiskKinds.IsPostAs, DiskKinds.IsReplyAs, Neighbours.IsKeptOn, OnDisks.RefinesEvent, OnDisks.IsAsBefore, Seats.IsShared, Seats.Seat, Seats.RepresentsSeat, Steps.HasEnded, Steps.IsAllOnDisk, Steps.WasCut}
+use Rattle.{std.specs.Prelude.{◌≡◌, ℕ, Bool, List, Option, Some, None, Result, Ok}, base_file.specs.Base.Base, disk_io.specs.Disk.DiskState}
+use Rattle.cmd_store.specs.declared.{drafting.NewMessage.NewMessage, answering.Answer.Answer, letter.Letter.Letter, mailed.MailWords.MailWords}
+use Rattle.{cmd_store.specs.declared.command_error.CommandError.CommandError, cmd_status.specs.declared.fault.Fault.Fault, station.specs.Place.Place}
+use Rattle.law_stations.specs.{Commands.Command, Kinds.{IsPurge, IsToss}, Disks.Disks, DiskKinds.{IsMail, IsPostAs, IsReplyAs}, Neighbours.IsKeptOn}
+use Rattle.law_stations.specs.{OnDisks.{RefinesEvent, IsAsBefore}, Seats.{IsShared, Seat, RepresentsSeat}, Steps.{HasEnded, IsAllOnDisk, WasCut}}
 
 -- A request to a station.
 pub data Asked : Type 0 where

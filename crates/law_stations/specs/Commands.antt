@@ -1,16 +1,12 @@
 -- The effect of a command on a net of stations: it changes the base of one station, and commits it there.
 use Rattle.std.specs.{Prelude.{◌≡◌, ℕ, ◌⊎◌, ◌+◌, ◌-◌, Bool, true, List, [], ◌∷◌, length, map, take, Option, Some, None, Ok}, List.AllByRecursion}
-use Rattle.base_file.specs.Base.{Base}
-use Rattle.echo_packet.specs.{Header.AreBytes, declared.limits.Limits.Limits}
-use Rattle.echo_links.specs.{Links.LinkFile, LinkLines.LinksOf}
-use Rattle.model_steps.specs.{PacketFiles.PacketFile, declared.stamp.Stamp.Stamp, Posting.posted, Scanning.scanned, Stamps.is_stamp}
-use Rattle.model_run.specs.Run.{nth}
-use Rattle.cmd_status.specs.{declared.fault.Fault.Fault, Devices.Device}
-use Rattle.base_store.specs.Store.{all_scanned, purged}
-use Rattle.echo_toss.specs.PacketsIn.{state_in}
-use Rattle.cmd_store.specs.{declared.drafting.NewMessage.NewMessage, Coming.Coming, Coming.Fails, Coming.Holds, Coming.Unknown, Drafts.draft_given, PacketLines.file_sent, TossRuns.TossesEachBy, TossRuns.run_begun, TossedPacket.TossRun, TossedPacket.TossesPacketBy}
-use Rattle.cmd_store.specs.Posted as store
+use Rattle.{base_file.specs.Base.Base, echo_packet.specs.{Header.AreBytes, declared.limits.Limits.Limits}, echo_links.specs.{Links.LinkFile, LinkLines.LinksOf}}
+use Rattle.{model_steps.specs.{PacketFiles.PacketFile, declared.stamp.Stamp.Stamp, Posting.posted, Scanning.scanned, Stamps.is_stamp}, model_run.specs.Run.nth}
+use Rattle.{cmd_status.specs.{declared.fault.Fault.Fault, Devices.Device}, base_store.specs.Store.{all_scanned, purged}, echo_toss.specs.PacketsIn.state_in}
+use Rattle.cmd_store.specs.{declared.drafting.NewMessage.NewMessage, Coming.{Coming, Fails, Holds, Unknown}, Drafts.draft_given, PacketLines.file_sent}
+use Rattle.cmd_store.specs.{TossRuns.{TossesEachBy, run_begun}, TossedPacket.{TossRun, TossesPacketBy}}
 use Rattle.law_stations.specs.Nets.{Net, Paired, Station, with_left, with_posting, with_tossed}
+use Rattle.cmd_store.specs.Posted as store
 
 -- The station with the index, and its parsed link file.
 pub record IsAt (net : Net) (i : ℕ) (station : Station) (file : LinkFile) : Type 0 where

@@ -1,9 +1,7 @@
 -- The command events that a command may be, if that depends on the base.
-use Rattle.std.specs.Prelude.{◌≡◌, ℕ, Bool, true, false, List, Some, slice_get}
-use Rattle.base_file.specs.Base.{Base}
-use Rattle.echo_filed.specs.Filed.{Filed}
-use Rattle.cmd_store.specs.{declared.drafting.NewMessage.NewMessage, declared.answering.Answer.Answer, AnswerWords.IsReply, declared.letter.Letter.Letter, declared.mailed.MailWords.MailWords, Mailed.IsPosting}
-use Rattle.law_stations.specs.{Commands.Command, Kinds.IsPost, Kinds.IsPostWith}
+use Rattle.{std.specs.Prelude.{◌≡◌, ℕ, Bool, true, false, List, Some, slice_get}, base_file.specs.Base.Base, echo_filed.specs.Filed.Filed}
+use Rattle.cmd_store.specs.{declared.{drafting.NewMessage.NewMessage, answering.Answer.Answer, letter.Letter.Letter}, AnswerWords.IsReply}
+use Rattle.{cmd_store.specs.{declared.mailed.MailWords.MailWords, Mailed.IsPosting}, law_stations.specs.{Commands.Command, Kinds.{IsPost, IsPostWith}}}
 
 -- The posting of these words; if a free serial is searched, with some serial.
 abbrev pub IsPostAs : Bool → NewMessage → List ℕ → Command → Type 0

@@ -1,14 +1,9 @@
 -- The promise about a net, for any commands.
-use Rattle.std.specs.Prelude.{◌≡◌, ℕ, ◌⊎◌, ◌≤◌, List, map, take, Some, Ok}
-use Rattle.cmd_status.specs.Inputs.{AreLinkFiles}
-use Rattle.model_graph.specs.Walk.{Among, Different}
-use Rattle.echo_packet.specs.{Packet.PacketOf, declared.limits.Limits.Limits}
-use Rattle.echo_links.specs.{Links.LinkFile, LinkLines.LinksOf}
-use Rattle.base_file.specs.Base.{IsBase}
-use Rattle.echo_filed.specs.{declared.key.Key.Key, Filed.Filed, Filed.key_of, Stubs.stub_of}
-use Rattle.model_steps.specs.declared.packet.Packet.{Packet}
-use Rattle.model_run.specs.{Orderly.SameContent, Orderly.count, Run.nth}
-use Rattle.law_stations.specs.{Agreement.file_address, Commands.CommandEvent, Commands.Happen, Commands.Purge, Nets.Net, Nets.Station, Nets.first_net}
+use Rattle.{std.specs.Prelude.{◌≡◌, ℕ, ◌⊎◌, ◌≤◌, List, map, take, Some, Ok}, cmd_status.specs.Inputs.AreLinkFiles, model_graph.specs.Walk.{Among, Different}}
+use Rattle.{echo_packet.specs.{Packet.PacketOf, declared.limits.Limits.Limits}, echo_links.specs.{Links.LinkFile, LinkLines.LinksOf}}
+use Rattle.{base_file.specs.Base.IsBase, echo_filed.specs.{declared.key.Key.Key, Filed.{Filed, key_of}, Stubs.stub_of}}
+use Rattle.{model_steps.specs.declared.packet.Packet.Packet, model_run.specs.{Orderly.{SameContent, count}, Run.nth}, law_stations.specs.Agreement.file_address}
+use Rattle.law_stations.specs.{Commands.{CommandEvent, Happen, Purge}, Nets.{Net, Station, first_net}}
 
 -- The contents of a station: its link file, and the messages and the cursor of its base.
 pub record StationSays (station : Station) (file : LinkFile) (messages : List Filed) (cursor : ℕ) : Type 0 where

@@ -1,10 +1,7 @@
 -- Other stations on the same disk.
-use Rattle.std.specs.Prelude.{◌≡◌, ◌≢◌, ℕ, List}
-use Rattle.base_file.specs.Base.{Base}
-use Rattle.disk_io.specs.Disk.{DiskState, Files}
-use Rattle.model_run.specs.Run.{nth}
-use Rattle.station.specs.Place.{Place}
-use Rattle.law_stations.specs.{Commands.CommandEvent, Disks.Disks, Stopping.MayHappen, OnDisks.IsStationAt, OnDisks.LeavesElsewhere, OnDisks.ShowsStation}
+use Rattle.{std.specs.Prelude.{◌≡◌, ◌≢◌, ℕ, List}, base_file.specs.Base.Base, disk_io.specs.Disk.{DiskState, Files}, model_run.specs.Run.nth}
+use Rattle.{station.specs.Place.Place, law_stations.specs.{Commands.CommandEvent, Disks.Disks, Stopping.MayHappen}}
+use Rattle.law_stations.specs.OnDisks.{IsStationAt, LeavesElsewhere, ShowsStation}
 
 -- Each file of a place with a synced name and synced bytes is as the disk shows it.
 abbrev pub SameOnDisk : Place → DiskState → Files → Type 0

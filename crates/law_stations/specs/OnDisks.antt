@@ -1,13 +1,9 @@
 -- A link file and a base on a disk as those of a station in a net, for every kind of base.
-use Rattle.std.specs.Prelude.{◌≡◌, ◌⊎◌, ℕ, List, Option, Some, Result, Ok, Err}
-use Rattle.base_file.specs.Base.{Base}
-use Rattle.disk_io.specs.Disk.{DiskState, Files}
-use Rattle.echo_links.specs.Links.{LinkFile}
-use Rattle.model_run.specs.Run.{nth}
-use Rattle.station.specs.{Links.AreLinks, Place.KeepsElsewhere, Place.Place, Place.SameElsewhere}
-use Rattle.cmd_status.specs.declared.fault.Fault.{Fault}
-use Rattle.cmd_store.specs.{Coming.Coming, declared.command_error.CommandError.CommandError, declared.command_error.CommandError.TheVariants.Met}
-use Rattle.law_stations.specs.{Commands.Command, Commands.IsPacketAt, Commands.whole_of, Kinds.IsToss, Nets.Paired, Nets.Station, Nets.with_indexes, Disks.Disks, Stopping.PartialEffect}
+use Rattle.{std.specs.Prelude.{◌≡◌, ◌⊎◌, ℕ, List, Option, Some, Result, Ok, Err}, base_file.specs.Base.Base, disk_io.specs.Disk.{DiskState, Files}}
+use Rattle.{echo_links.specs.Links.LinkFile, model_run.specs.Run.nth, station.specs.{Links.AreLinks, Place.{KeepsElsewhere, Place, SameElsewhere}}}
+use Rattle.{cmd_status.specs.declared.fault.Fault.Fault, cmd_store.specs.{Coming.Coming, declared.command_error.CommandError.{CommandError, TheVariants.Met}}}
+use Rattle.law_stations.specs.{Commands.{Command, IsPacketAt, whole_of}, Kinds.IsToss, Nets.{Paired, Station, with_indexes}, Disks.Disks}
+use Rattle.law_stations.specs.Stopping.{PartialEffect}
 
 -- This path has the link file of the station of this index, and the files hold its base.
 pub record ShowsStation (place : Place) (links : List ℕ) (i : ℕ) (c : Files) (d : Disks) : Type 0 where

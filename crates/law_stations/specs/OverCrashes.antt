@@ -1,10 +1,8 @@
 -- The promise about the disks of a net, for any stops of its commands.
-use Rattle.std.specs.Prelude.{◌≡◌, ◌⊎◌, ◌<◌, ℕ, false, List, [], map, Some}
-use Rattle.cmd_status.specs.Inputs.{AreLinkFiles}
-use Rattle.model_graph.specs.Walk.{Among, Different}
-use Rattle.echo_links.specs.Links.{LinkFile}
-use Rattle.model_run.specs.Run.{nth}
-use Rattle.law_stations.specs.{Commands.Command, Commands.CommandEvent, Commands.Happen, Commands.Post, Commands.Purge, Commands.Scan, Commands.Toss, InOrder.IsSound, Agreement.file_address, Nets.Net, Nets.Paired, Nets.first_net, Disks.StagingFile, Disks.Disks, Disks.HasCursor, Disks.first_disks, Stopping.MayHappenAll}
+use Rattle.{std.specs.Prelude.{◌≡◌, ◌⊎◌, ◌<◌, ℕ, false, List, [], map, Some}, cmd_status.specs.Inputs.AreLinkFiles, model_graph.specs.Walk.{Among, Different}}
+use Rattle.{echo_links.specs.Links.LinkFile, model_run.specs.Run.nth, law_stations.specs.Commands.{Command, CommandEvent, Happen, Post, Purge, Scan, Toss}}
+use Rattle.law_stations.specs.{InOrder.IsSound, Agreement.file_address, Nets.{Net, Paired, first_net}, Disks.{StagingFile, Disks, HasCursor, first_disks}}
+use Rattle.law_stations.specs.Stopping.{MayHappenAll}
 
 -- A staging file that did not get its name yet, after its scan moved the cursor: the next scan of the station will
 -- name it.

@@ -1,12 +1,8 @@
 -- The packets of a net as files in the folder of a station.
-use Rattle.std.specs.Prelude.{◌≡◌, ◌⊎◌, ◌<◌, ◌≤◌, ℕ, false, List, ◌++◌, Some, None, Ok}
-use Rattle.model_graph.specs.Walk.{Among}
-use Rattle.disk_io.specs.Disk.{DiskState, Files}
-use Rattle.disk_atomic.specs.{ListStaged.IsNumbered, StagingPaths.dotted, StagingPaths.staging_path}
-use Rattle.echo_links.specs.{Links.LinkFile, LinkLines.LinksOf}
-use Rattle.station.specs.Place.{Place}
-use Rattle.station_scan.specs.{Publishing.IsOnDisk, Sending.IsOffOwn, Sending.two_paths}
-use Rattle.law_stations.specs.{Disks.Disks, Disks.StagingFile, Nets.Station}
+use Rattle.{std.specs.Prelude.{◌≡◌, ◌⊎◌, ◌<◌, ◌≤◌, ℕ, false, List, ◌++◌, Some, None, Ok}, model_graph.specs.Walk.Among, disk_io.specs.Disk.{DiskState, Files}}
+use Rattle.{disk_atomic.specs.{ListStaged.IsNumbered, StagingPaths.{dotted, staging_path}}, echo_links.specs.{Links.LinkFile, LinkLines.LinksOf}}
+use Rattle.{station.specs.Place.Place, station_scan.specs.{Publishing.IsOnDisk, Sending.{IsOffOwn, two_paths}}, law_stations.specs.Disks.{Disks, StagingFile}}
+use Rattle.law_stations.specs.Nets.{Station}
 
 -- A packet's name in the folder, and the number in it. Neither of its two paths is the station's own.
 pub record IsPacketName (Own : List ℕ → Type 0) (outbound own name : List ℕ) : Type 0 where

@@ -1,15 +1,13 @@
 -- Repair on the disks of a net of stations, from any state on, and for any stops of commands.
 use Rattle.std.specs.{Prelude.{◌≡◌, ◌≢◌, ◌⊎◌, ℕ, zero, suc, ◌≤◌, IsTrue, List, [], ◌∷◌, length, map, Some}, List.AllByRecursion}
-use Rattle.echo_addr.specs.declared.address.Address.{Address}
-use Rattle.cmd_status.specs.Inputs.{AreLinkFiles}
-use Rattle.model_graph.specs.Walk.{Among, Different, Walk}
-use Rattle.echo_packet.specs.{Header.AreBytes, Packet.packet_bytes}
-use Rattle.echo_links.specs.Links.{LinkFile, has_area, is_link}
-use Rattle.echo_filed.specs.{declared.key.Key.Key, declared.key.Key.TheVariants.ById, Filed.Filed, Filed.key_of}
-use Rattle.base_file.specs.Base.{is_known}
-use Rattle.model_steps.specs.{declared.packet.Packet.Packet, declared.stamp.Stamp.Stamp, Resending.is_whole_in, Scanning.copy_to}
-use Rattle.model_run.specs.{Orderly.count, Orderly.origin, Repair.AreJoined, Repair.both_list, Repair.is_lacking, Repair.rest_packet, Run.destination, Run.nth}
-use Rattle.law_stations.specs.{Agreement.file_address, AnyDisks.all_packets, AnyDisks.disks_at, AnyNets.IsSomeNet, AnyNets.links_at, AnyNets.net_at, Commands.CommandEvent, Commands.IsAt, Commands.Purge, Disks.Disks, Disks.StagingFile, Disks.with_packet, InOrder.ReadsAs, InOrder.StationHolds, Nets.Net, Nets.Station, Stopping.MayHappen}
+use Rattle.{echo_addr.specs.declared.address.Address.Address, cmd_status.specs.Inputs.AreLinkFiles, model_graph.specs.Walk.{Among, Different, Walk}}
+use Rattle.{echo_packet.specs.{Header.AreBytes, Packet.packet_bytes}, echo_links.specs.Links.{LinkFile, has_area, is_link}}
+use Rattle.{echo_filed.specs.{declared.key.Key.{Key, TheVariants.ById}, Filed.{Filed, key_of}}, base_file.specs.Base.is_known}
+use Rattle.model_steps.specs.{declared.{packet.Packet.Packet, stamp.Stamp.Stamp}, Resending.is_whole_in, Scanning.copy_to}
+use Rattle.model_run.specs.{Orderly.{count, origin}, Repair.{AreJoined, both_list, is_lacking, rest_packet}, Run.{destination, nth}}
+use Rattle.law_stations.specs.{Agreement.file_address, AnyDisks.{all_packets, disks_at}, AnyNets.{IsSomeNet, links_at, net_at}}
+use Rattle.law_stations.specs.{Commands.{CommandEvent, IsAt, Purge}, Disks.{Disks, StagingFile, with_packet}, InOrder.{ReadsAs, StationHolds}}
+use Rattle.law_stations.specs.{Nets.{Net, Station}, Stopping.MayHappen}
 
 -- The bytes of a packet.
 abbrev pub bytes_sent : Packet → List ℕ

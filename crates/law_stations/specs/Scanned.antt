@@ -1,13 +1,10 @@
 -- The contracts of a scan and of a toss that ended well, as statements about the steps of a net.
-use Rattle.std.specs.Prelude.{◌≡◌, ◌⊎◌, ℕ, List, Option, None, Result, Ok}
-use Rattle.base_file.specs.Base.{Base}
-use Rattle.disk_io.specs.Disk.{DiskState, Files}
-use Rattle.cmd_status.specs.declared.fault.Fault.{Fault}
-use Rattle.model_steps.specs.declared.stamp.Stamp.{Stamp}
-use Rattle.cmd_store.specs.{Coming.Coming, declared.command_error.CommandError.CommandError}
-use Rattle.station.specs.Place.{Place}
-use Rattle.station_scan.specs.declared.scan_error.ScanError.{ScanError}
-use Rattle.law_stations.specs.{Commands.Command, Commands.Scan, Commands.whole_of, Kinds.IsToss, Nets.Station, Nets.with_indexes, Disks.Disks, OnDisks.IsAsBefore, OnDisks.TossesAsEvent, PacketNames.IsListed, PacketNames.ShowsFolder, Scans.AreAfterScan, Scans.IsCounted, Scans.ScansAsEvent, Asked.GoesOnCut, Asked.GoesOnEnded, Asked.IsKeptWhereShared, Seats.Seat, Seats.RepresentsSeat, Steps.HasEnded, Steps.IsAllOnDisk}
+use Rattle.{std.specs.Prelude.{◌≡◌, ◌⊎◌, ℕ, List, Option, None, Result, Ok}, base_file.specs.Base.Base, disk_io.specs.Disk.{DiskState, Files}}
+use Rattle.{cmd_status.specs.declared.fault.Fault.Fault, model_steps.specs.declared.stamp.Stamp.Stamp, cmd_store.specs.Coming.Coming}
+use Rattle.{cmd_store.specs.declared.command_error.CommandError.CommandError, station.specs.Place.Place, law_stations.specs.Steps.{HasEnded, IsAllOnDisk}}
+use Rattle.{station_scan.specs.declared.scan_error.ScanError.ScanError, law_stations.specs.{Commands.{Command, Scan, whole_of}, Kinds.IsToss}}
+use Rattle.law_stations.specs.{Nets.{Station, with_indexes}, Disks.Disks, OnDisks.{IsAsBefore, TossesAsEvent}, PacketNames.{IsListed, ShowsFolder}}
+use Rattle.law_stations.specs.{Scans.{AreAfterScan, IsCounted, ScansAsEvent}, Asked.{GoesOnCut, GoesOnEnded, IsKeptWhereShared}, Seats.{Seat, RepresentsSeat}}
 
 -- The packets that a toss tossed whole are delivered.
 pub record GoesOnTossed {Kept : Type 0} (place : Kept → Place) (seats : List (Seat Kept)) (seat : Seat Kept) (i : ℕ) (indexes : List ℕ) (answer : Option Fault) (left : List Coming) (d : Disks) (old new : DiskState) : Type 0 where

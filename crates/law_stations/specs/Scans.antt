@@ -1,15 +1,12 @@
 -- A scan on a station of a disk.
 use Rattle.std.specs.{Prelude.{◌≡◌, ◌⊎◌, ◌<◌, ◌≤◌, ◌^◌, ◌++◌, ℕ, List, [], length, map, None, Some, Result, Ok, Err}, List.AllByRecursion}
-use Rattle.base_file.specs.Base.{Base}
-use Rattle.disk_io.specs.Disk.{DiskState, Files}
-use Rattle.echo_links.specs.{Links.LinkFile, LinkLines.LinksOf}
-use Rattle.disk_atomic.specs.StagingPaths.{dotted, staging_path}
-use Rattle.cmd_status.specs.declared.fault.Fault.{Fault}
-use Rattle.model_steps.specs.{PacketFiles.PacketFile, declared.stamp.Stamp.Stamp}
-use Rattle.cmd_store.specs.declared.command_error.CommandError.TheVariants.{Met}
-use Rattle.station.specs.Place.{Place}
-use Rattle.station_scan.specs.{Scanning.IsTouched, declared.scan_error.ScanError.ScanError, declared.scan_error.ScanError.TheVariants.Command}
-use Rattle.law_stations.specs.{OnDisks.IsAsBefore, OnDisks.IsLinkedOn, OnDisks.IsStationAt, OnDisks.LeavesElsewhere, OnDisks.ReadsLinks, OnDisks.ShowsStation, Commands.Scan, Nets.Station, Nets.bytes_of, Disks.Disks, PacketNames.IsFolderIn, PacketNames.IsFolderOn, PacketNames.IsListed, PacketNames.ShowsFolder, Stopping.EndsSome, Stopping.HasNoneStaged, Stopping.PartialEffect, Stopping.staging_of}
+use Rattle.{base_file.specs.Base.Base, disk_io.specs.Disk.{DiskState, Files}, echo_links.specs.{Links.LinkFile, LinkLines.LinksOf}}
+use Rattle.{disk_atomic.specs.StagingPaths.{dotted, staging_path}, cmd_status.specs.declared.fault.Fault.Fault, model_steps.specs.PacketFiles.PacketFile}
+use Rattle.{model_steps.specs.declared.stamp.Stamp.Stamp, cmd_store.specs.declared.command_error.CommandError.TheVariants.Met, station.specs.Place.Place}
+use Rattle.station_scan.specs.{Scanning.IsTouched, declared.scan_error.ScanError.{ScanError, TheVariants.Command}}
+use Rattle.law_stations.specs.{OnDisks.{IsAsBefore, IsLinkedOn, IsStationAt, LeavesElsewhere, ReadsLinks, ShowsStation}, Commands.Scan}
+use Rattle.law_stations.specs.{Nets.{Station, bytes_of}, Disks.Disks, PacketNames.{IsFolderIn, IsFolderOn, IsListed, ShowsFolder}}
+use Rattle.law_stations.specs.Stopping.{EndsSome, HasNoneStaged, PartialEffect, staging_of}
 
 -- The packet is whole at its path.
 abbrev pub IsAtPath : List ℕ → Files → PacketFile → Type 0

@@ -1,10 +1,7 @@
 -- Stations of a net, each on a disk; several may share one.
-use Rattle.std.specs.Prelude.{◌≡◌, ◌≢◌, ◌⊎◌, ◌++◌, ℕ, List, Some}
-use Rattle.base_file.specs.Base.{Base}
-use Rattle.disk_io.specs.Disk.{DiskState, Files}
-use Rattle.model_run.specs.Run.{nth}
-use Rattle.station.specs.Place.{Place}
-use Rattle.law_stations.specs.{Disks.Disks, Neighbours.IsApart, Neighbours.IsKeptOn, OnDisks.IsStationAt, OnDisks.ShowsStation, PacketNames.ShowsFolder}
+use Rattle.{std.specs.Prelude.{◌≡◌, ◌≢◌, ◌⊎◌, ◌++◌, ℕ, List, Some}, base_file.specs.Base.Base, disk_io.specs.Disk.{DiskState, Files}, model_run.specs.Run.nth}
+use Rattle.{station.specs.Place.Place, law_stations.specs.{Disks.Disks, Neighbours.{IsApart, IsKeptOn}, OnDisks.{IsStationAt, ShowsStation}}}
+use Rattle.law_stations.specs.PacketNames.{ShowsFolder}
 
 -- The holder of a base: one of two kinds.
 pub data OfTwo (First Second : Type 0) : Type 0 where

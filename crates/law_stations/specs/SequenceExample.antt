@@ -1,15 +1,10 @@
 -- A sequence of steps at two stations: a post, a scan that a crash cuts after its commit, another crash before the next command, and a toss
 -- of the packet at the other station.
-use Rattle.std.specs.Prelude.{◌≡◌, ◌⊎◌, ℕ, List, [], ◌∷◌, bytes_eq, if◌then◌else◌, Some, None}
-use Rattle.base_file.specs.Base.{Base}
-use Rattle.base_store.specs.Store.{all_scanned}
-use Rattle.cmd_store.specs.declared.drafting.NewMessage.{NewMessage}
-use Rattle.disk_io.specs.Disk.{DiskState, Files}
-use Rattle.model_run.specs.Run.{nth}
-use Rattle.model_steps.specs.{PacketFiles.PacketFile, declared.stamp.Stamp.Stamp}
-use Rattle.station.specs.Place.{Place}
-use Rattle.law_stations.specs.{Commands.Post, Commands.Posts, Commands.Scan, Commands.Scans, Commands.Toss, Commands.Tosses, Disks.Disks, Nets.Net, Nets.empty_base, Nets.first_net, OverCrashes.disks_of}
-use Rattle.law_stations.specs.{Seats.AreNeighbours, Seats.AreSeated, Seats.Seat, Steps.Crashes, Steps.Ends, Steps.GoesOn, Steps.IsCut, Steps.Step}
+use Rattle.{std.specs.Prelude.{◌≡◌, ◌⊎◌, ℕ, List, [], ◌∷◌, bytes_eq, if◌then◌else◌, Some, None}, base_file.specs.Base.Base, base_store.specs.Store.all_scanned}
+use Rattle.{cmd_store.specs.declared.drafting.NewMessage.NewMessage, disk_io.specs.Disk.{DiskState, Files}, model_run.specs.Run.nth}
+use Rattle.{model_steps.specs.{PacketFiles.PacketFile, declared.stamp.Stamp.Stamp}, station.specs.Place.Place}
+use Rattle.law_stations.specs.{Commands.{Post, Posts, Scan, Scans, Toss, Tosses}, Nets.{Net, empty_base, first_net}, OverCrashes.disks_of}
+use Rattle.law_stations.specs.{Seats.{AreNeighbours, AreSeated, Seat}, Steps.{Crashes, Ends, GoesOn, IsCut, Step}}
 
 -- The effects on a net: a posting at the first station, a scan there, which makes one packet, and a toss of it at the second.
 pub record Story : Type 0 where

@@ -1,9 +1,7 @@
 -- Steps at stations: commands that end or that a crash cuts, crashes between commands, and changes by others.
-use Rattle.std.specs.Prelude.{◌≡◌, ℕ, List, [], ◌∷◌, Option, Some, None}
-use Rattle.disk_io.specs.Disk.{DiskState}
-use Rattle.model_run.specs.Run.{change, nth}
-use Rattle.station.specs.Place.{Place}
-use Rattle.law_stations.specs.{Commands.Command, Commands.CommandEvent, Disks.Disks, Stopping.PartialEffect, OnDisks.LeavesElsewhere, OnDisks.ShowsStation, PacketNames.IsFolderIn, Seats.Seat, Seats.RepresentsSeat, Seats.reach}
+use Rattle.{std.specs.Prelude.{◌≡◌, ℕ, List, [], ◌∷◌, Option, Some, None}, disk_io.specs.Disk.DiskState, model_run.specs.Run.{change, nth}}
+use Rattle.{station.specs.Place.Place, law_stations.specs.{Commands.{Command, CommandEvent}, Disks.Disks, Stopping.PartialEffect}}
+use Rattle.law_stations.specs.{OnDisks.{LeavesElsewhere, ShowsStation}, PacketNames.IsFolderIn, Seats.{Seat, RepresentsSeat, reach}}
 
 -- A command at a station ends. Or a crash cuts it; without the crash it would have led to this disk. Or there is a crash
 -- between commands. Or others change the disk, as a mailer that takes packets away and brings some. `None` is a command

@@ -1,10 +1,8 @@
 -- The effect of a command that may be stopped at any time: by a fault, a kill, or a power cut.
 use Rattle.std.specs.{Prelude.{◌≡◌, ◌≢◌, ◌⊎◌, ◌<◌, ◌≤◌, ℕ, zero, suc, true, false, List, [], ◌∷◌, ◌++◌, map, take}, List.AllByRecursion}
-use Rattle.model_graph.specs.Walk.{Among}
-use Rattle.model_steps.specs.{declared.stamp.Stamp.Stamp, PacketFiles.PacketFile}
-use Rattle.base_store.specs.Store.{all_scanned}
-use Rattle.law_stations.specs.Commands.{Command, CommandEvent, Post, Posts, Purge, Purges, Scan, Scans, Toss, Tosses}
-use Rattle.law_stations.specs.{Nets.Net, Nets.with_left, Disks.StagingFile, Disks.Disks, Disks.HasCursor, Disks.naming}
+use Rattle.{model_graph.specs.Walk.Among, model_steps.specs.{declared.stamp.Stamp.Stamp, PacketFiles.PacketFile}, base_store.specs.Store.all_scanned}
+use Rattle.law_stations.specs.{Commands.{Command, CommandEvent, Post, Posts, Purge, Purges, Scan, Scans, Toss, Tosses}, Nets.{Net, with_left}}
+use Rattle.law_stations.specs.Disks.{StagingFile, Disks, HasCursor, naming}
 
 -- A staging file that is now also under the packet's name.
 abbrev pub now_named : StagingFile → StagingFile

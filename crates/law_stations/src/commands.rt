@@ -1,7 +1,6 @@
 //! Each command, run on a station of a net: it does on the disk what its command event may do.
-ghost use Rattle.disk_io.specs.Disk.{Honestly};
-ghost use Rattle.station.specs.Opening.{AreFree, HaveFailed};
-ghost use Rattle.law_stations.specs.{Kinds.IsPurge, DiskKinds.IsMail, DiskKinds.IsPostAs, DiskKinds.IsReplyAs, OnDisks.AsMay, OnDisks.StaysWhereMet, OnDisks.TossesAsMay};
+ghost use Rattle.{disk_io.specs.Disk.Honestly, station.specs.Opening.{AreFree, HaveFailed}, law_stations.specs.Kinds.IsPurge};
+ghost use Rattle.law_stations.specs.{DiskKinds.{IsMail, IsPostAs, IsReplyAs}, OnDisks.{AsMay, StaysWhereMet, TossesAsMay}};
 
 use cmd_status::{Fault, FileLock};
 use cmd_store::{PacketFiles, Post, PostMail, Purge, Reply, Toss};

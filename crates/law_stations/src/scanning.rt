@@ -1,7 +1,5 @@
 //! A scan, run on a station of a net: it does on the disk what its command event may do.
-ghost use Rattle.disk_io.specs.Disk.{Honestly};
-ghost use Rattle.station.specs.Opening.{AreFree, HaveFailed};
-ghost use Rattle.law_stations.specs.Scans.{ScansAsMay, StaysWhereScanMet};
+ghost use Rattle.{disk_io.specs.Disk.Honestly, station.specs.Opening.{AreFree, HaveFailed}, law_stations.specs.Scans.{ScansAsMay, StaysWhereScanMet}};
 
 use cmd_status::{FileLock, MessageProgress};
 use disk_atomic::ListStaged;

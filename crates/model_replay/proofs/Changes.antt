@@ -1,9 +1,8 @@
 -- An item of a list is changed.
-use Rattle.std.proofs.Common.{◌≡◌, ◌≢◌, ℕ, zero, suc, ◌<◌, ◌≤◌, List, [], ◌∷◌, ◌++◌, length, get_or, set, map, cond, refl, sym, ap, ◌∙◌, Option, Some, None, arith}
+use Rattle.std.proofs.Common.{◌≡◌, ℕ, zero, suc, ◌<◌, ◌≤◌, List, [], ◌∷◌, ◌++◌, length, get_or, set, map, cond, refl, sym, ap, ◌∙◌, Option, Some, None, arith}
 use Rattle.std.{proofs.{lemmas.{List.append-nil, Option.{get_or_from_slice_get, slice_get_read}}, Math.Seq.map-set_same}, specs.{Prelude.is_none, List.All}}
 use Rattle.echo_links.specs.Links.{LinkFile}
-use Rattle.model_steps.specs.{declared.draft.Draft.Draft, declared.stamp.Stamp.Stamp, declared.fault.PostFault.PostFault, declared.packet.Packet.Packet, Posting.IsPostFault, Posting.post_refusal, Posting.posted, Posting.posting, SystemState.SystemState, SystemState.state_with}
-use Rattle.model_steps.specs.declared.fault.PostFault.TheVariants as fault
+use Rattle.model_steps.specs.{declared.draft.Draft.Draft, declared.stamp.Stamp.Stamp, declared.fault.PostFault.PostFault, declared.packet.Packet.Packet, Posting.post_refusal, Posting.posted, Posting.posting, SystemState.SystemState, SystemState.state_with}
 use Rattle.model_run.specs.Run.{change, nth}
 use Rattle.model_replay.specs.Worlds.{Exported, Fits, ScanFits, WorldState, own_addresses, after_posting, after_scan, after_toss, arrived, made, made_by, scanned_world, with_change}
 use Rattle.model_replay.proofs.Exports.{nth-slice_get}
@@ -31,17 +30,13 @@ posting-none : (o : SystemState) (tag : List ℕ) (draft : Draft) (serial : ℕ)
 unfolding posting
 posting-none o tag draft serial stamp f e = ap (λ (r : Option PostFault). cond (is_none r) (Some (posted o.file tag draft serial stamp)) None) e
 
-after_refusal : (o : SystemState) (tag : List ℕ) (draft : Draft) (serial : ℕ) (stamp : Stamp) (f : PostFault) (n : SystemState) → post_refusal o.file o.base tag draft serial stamp ≡ Some f
+pub refused-after : (o : SystemState) (tag : List ℕ) (draft : Draft) (serial : ℕ) (stamp : Stamp) (f : PostFault) (n : SystemState) → post_refusal o.file o.base tag draft serial stamp ≡ Some f
     → n ≡ o → n ≡ after_posting tag draft serial stamp o
-after_refusal o tag draft serial stamp f n e same = same ∙ sym (state_with-none o) ∙ ap (state_with o) (sym (posting-none o tag draft serial stamp f e))
+refused-after o tag draft serial stamp f n e same = same ∙ sym (state_with-none o) ∙ ap (state_with o) (sym (posting-none o tag draft serial stamp f e))
 
 pub posted-after : (o : SystemState) (tag : List ℕ) (draft : Draft) (serial : ℕ) (stamp : Stamp) (n : SystemState) → post_refusal o.file o.base tag draft serial stamp ≡ None
     → n ≡ state_with o (Some (posted o.file tag draft serial stamp)) → n ≡ after_posting tag draft serial stamp o
 posted-after o tag draft serial stamp n free h = h ∙ ap (state_with o) (sym (posting-some o tag draft serial stamp free))
-
-pub refused-after : (o : SystemState) (tag : List ℕ) (draft : Draft) (serial : ℕ) (stamp : Stamp) (f : PostFault) (n : SystemState)
-    → IsPostFault o.file o.base tag draft serial stamp f → f ≢ fault.Memory → n ≡ o → n ≡ after_posting tag draft serial stamp o
-refused-after o tag draft serial stamp f n h1 h2 h3 = grind (arith, after_refusal)
 
 pub set-addresses : (ss : List SystemState) (i : ℕ) (s d : SystemState) → s.file ≡ (get_or ss i d).file → own_addresses (set ss i s) ≡ own_addresses ss
 set-addresses ss i s d e = map-set_same (λ (x : SystemState). x.file.system) ss i s d (ap (λ (f : LinkFile). f.system) e)

@@ -1,20 +1,16 @@
-ghost use Rattle.std.specs.{Prelude.{◌≡◌, ◌≢◌, ◌++◌, ◌∷◌, [], ◌<◌, length, map, Bool, true, false, None, Some, IfOk, OnOk}, List.All};
-ghost use Rattle.model_steps.specs.declared.fault.PostFault.TheVariants as post_fault;
+ghost use Rattle.std.specs.{Prelude.{◌≡◌, ◌++◌, ◌∷◌, [], ◌<◌, length, map, Bool, true, false, None, Some, OnOk}, List.All};
 ghost use Rattle.model_run.specs.{Run.Run, Run.after_event, Run.change, Run.destination, Run.nth, Event.run_event};
 ghost use Rattle.model_steps.specs.{declared.packet.Packet.Packet, SystemState.SystemState};
-ghost use Rattle.model_replay.specs.Worlds.{Fits, IsWorldOf, LeadsToFirst, ScanFits, own_addresses, after_posting, after_purge, after_scan, after_toss, arrived, encoded, made, made_by, scanned_world, with_change, world_after};
+ghost use Rattle.model_replay.specs.Worlds.{Fits, IsWorldOf, LeadsToFirst, ScanFits, own_addresses, after_posting, after_purge, after_toss, arrived, encoded, made, scanned_world, with_change, world_after};
 ghost use Rattle.model_replay.specs.Taken.{AreTaken};
 ghost use Rattle.model_replay.specs.Worlds as model;
 
 use crate::fitting::fit;
 use crate::receivers::Receivers;
 use crate::world::{Exported, World};
-use echo_packet::Limits;
-use echo_toss::Tosser;
 use model_run::Event;
-use model_steps::{Draft, Packet, PostFault, ScanFault, Stamp};
+use model_steps::{Draft, Packet, Stamp};
 use std::alloc::{AllocError, Global};
-use std::hash::RandomState;
 
 /// The event happens. Fails only when out of memory, and the world is then of no run.
 pub(crate) fn happen(
@@ -34,7 +30,15 @@ pub(crate) fn happen(
             draft,
             serial,
             stamp,
-        } => post(world, *system, tag.as_slice(), draft, *serial, *stamp),
+        } => post(
+            alloc,
+            world,
+            *system,
+            tag.as_slice(),
+            draft,
+            *serial,
+            *stamp,
+        ),
         Event::Scan { system, stamp } => scan(alloc, world, *system, *stamp),
         Event::Deliver { packet } => deliver(alloc, receivers, world, *packet),
         Event::Purge { system } => purge(world, *system),
@@ -42,6 +46,7 @@ pub(crate) fn happen(
 }
 
 fn post(
+    alloc: Global,
     world: &mut World,
     system: usize,
     tag: &[u8],
@@ -55,38 +60,8 @@ fn post(
     if system >= world.systems.len() {
         return Ok(());
     }
-    let tosser = &mut world.systems[system];
-    post_at(tosser, tag, draft, serial, stamp)
-}
-
-fn post_at(
-    tosser: &mut Tosser<RandomState>,
-    tag: &[u8],
-    draft: &Draft,
-    serial: u32,
-    stamp: Stamp,
-) -> Result<(), AllocError>
-    ensures file { tosser.new.file ≡ tosser.old.file }
-    ensures posted { OnOk result (tosser.new ≡ after_posting tag.now draft.now serial stamp tosser.old) }
-{
-    match tosser.post(tag, draft, serial, stamp) {
-        Ok(()) => Ok(()),
-        Err(fault) => unless_memory(fault),
-    }
-}
-
-fn unless_memory(fault: PostFault) -> Result<(), AllocError>
-    ensures { OnOk result (fault ≢ post_fault.Memory) }
-{
-    match fault {
-        PostFault::Memory => Err(AllocError),
-        PostFault::NoArea
-        | PostFault::ByteZero
-        | PostFault::FieldTooLong
-        | PostFault::BadStamp
-        | PostFault::BadReply
-        | PostFault::KnownSerial => Ok(()),
-    }
+    let state = &mut world.systems[system];
+    state.post(alloc, tag, draft, serial, stamp)
 }
 
 fn purge(world: &mut World, system: usize) -> Result<(), AllocError>
@@ -96,16 +71,8 @@ fn purge(world: &mut World, system: usize) -> Result<(), AllocError>
     if system >= world.systems.len() {
         return Ok(());
     }
-    let tosser = &mut world.systems[system];
-    purge_at(tosser)
-}
-
-fn purge_at(tosser: &mut Tosser<RandomState>) -> Result<(), AllocError>
-    ensures file { tosser.new.file ≡ tosser.old.file }
-    ensures purged { OnOk result (tosser.new ≡ after_purge tosser.old) }
-{
-    tosser.purge()?;
-    Ok(())
+    let state = &mut world.systems[system];
+    state.purge()
 }
 
 fn scan(alloc: Global, world: &mut World, system: usize, stamp: Stamp) -> Result<(), AllocError>
@@ -116,25 +83,9 @@ fn scan(alloc: Global, world: &mut World, system: usize, stamp: Stamp) -> Result
     if system >= world.systems.len() {
         return Ok(());
     }
-    let tosser = &mut world.systems[system];
-    let packets = scan_at(alloc, tosser, stamp)?;
+    let state = &mut world.systems[system];
+    let packets = state.scan(alloc, stamp)?;
     export(alloc, &mut world.packets, packets)
-}
-
-fn scan_at(
-    alloc: Global,
-    tosser: &mut Tosser<RandomState>,
-    stamp: Stamp,
-) -> Result<Vec<Packet>, AllocError>
-    ensures file { tosser.new.file ≡ tosser.old.file }
-    ensures packets { IfOk result (λ packets. packets.items ≡ made_by stamp tosser.old) }
-    ensures scanned { OnOk result (tosser.new ≡ after_scan stamp tosser.old) }
-{
-    match tosser.scan(stamp) {
-        Ok(packets) => Ok(packets),
-        Err(ScanFault::Memory) => Err(AllocError),
-        Err(ScanFault::BadStamp) => Ok(Vec::new(alloc)),
-    }
 }
 
 fn export(
@@ -209,21 +160,10 @@ fn arrive(alloc: Global, world: &mut World, packet: usize, system: usize) -> Res
         world.new ≡ record { systems = change system (after_toss p) world.old.systems; packets = change packet arrived world.old.packets }) }
 {
     let bytes = world.packets[packet].bytes(alloc)?;
-    let tosser = &mut world.systems[system];
-    toss_at(tosser, &bytes)?;
+    let state = &mut world.systems[system];
+    state.toss(alloc, &bytes)?;
     mark(&mut world.packets[packet]);
     Ok(())
-}
-
-fn toss_at(tosser: &mut Tosser<RandomState>, bytes: &[u8]) -> Result<(), AllocError>
-    ensures file { tosser.new.file ≡ tosser.old.file }
-    ensures tossed { OnOk result ((p : Packet) → Fits p → bytes.now ≡ encoded p → destination p ≡ tosser.old.file.system → tosser.new ≡ after_toss p tosser.old) }
-{
-    let mut rest = bytes;
-    match tosser.toss(&mut rest, Limits::NONE) {
-        Ok(_) => Ok(()),
-        Err(_) => Err(AllocError),
-    }
 }
 
 fn mark(packet: &mut Exported)

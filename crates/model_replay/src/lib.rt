@@ -10,6 +10,7 @@ mod receivers;
 mod replay_progress;
 mod replaying;
 mod script;
+mod system;
 mod world;
 
 pub use laws::replay_laws;

@@ -6,9 +6,9 @@ ghost use Rattle.model_steps.specs.SystemState.{state_at_first};
 use crate::happening::happen;
 use crate::receivers::Receivers;
 use crate::replay_progress::{ReplayProgress, Unreported};
+use crate::system::System;
 use crate::world::World;
 use echo_links::LinkFile;
-use echo_toss::Tosser;
 use model_run::Event;
 use std::alloc::{AllocError, Global};
 use std::hash::RandomState;
@@ -82,11 +82,11 @@ fn systems(
     alloc: Global,
     files: Vec<LinkFile>,
     hasher: RandomState,
-) -> Result<Vec<Tosser<RandomState>>, AllocError>
+) -> Result<Vec<System>, AllocError>
     ensures { IfOk result (λ all. all.items ≡ map state_at_first files.items) }
 {
     files
         .into_iter()
-        .map(|file| Tosser::new(alloc, file, hasher))
+        .map(|file| System::new(alloc, file, hasher))
         .collect(alloc)
 }

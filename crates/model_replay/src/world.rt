@@ -6,15 +6,15 @@ ghost use Rattle.base_file.specs.{BaseFile.is_countable, BaseFile.saved_bytes, S
 ghost use Rattle.model_run.specs.{World.area_count, World.filed_at, World.waiting_at, World.is_settled, World.undelivered, Run.Run, Run.destination, Run.nth};
 ghost use Rattle.model_replay.specs.Worlds.{IsWorldOf, OfSystem, encoded, made, message_at};
 
-use base_file::BaseFault;
+use crate::system::System;
+use base_file::{Base, BaseFault};
 use disk_io::Sink;
 use echo_addr::{Address, Items};
 use echo_filed::Filed;
 use echo_links::LinkFile;
-use echo_toss::Tosser;
 use model_steps::Packet;
 use std::alloc::{AllocError, Global};
-use std::hash::{BuildHasher, RandomState};
+use std::hash::RandomState;
 use std::marker::Model;
 
 /// A packet that was made, whom it is for, and whether it came.
@@ -67,12 +67,6 @@ impl Exported {
         self.to
     }
 
-    fn is_missing(&self) -> bool
-        ensures { result ≡ not self.now.came }
-    {
-        !self.came
-    }
-
     pub(crate) fn bytes(&self, alloc: Global) -> Result<Vec<u8>, AllocError>
         ensures { IfOk result (λ bytes. bytes.items ≡ self.now.bytes) }
     {
@@ -98,7 +92,7 @@ fn destination(packet: &Packet) -> Address
 /// of export, both from 0.
 #[derive(Drop)]
 pub struct World {
-    pub(crate) systems: Vec<Tosser<RandomState>>,
+    pub(crate) systems: Vec<System>,
     pub(crate) packets: Vec<Exported>,
 }
 
@@ -116,7 +110,7 @@ impl World {
         ensures { (run : Run) → IsWorldOf self.now run → result ≡ filed_at run system tag.now }
     {
         match self.systems.get(system) {
-            Some(tosser) => count_from(tosser, 0, tag),
+            Some(found) => count_from(found.base(), 0, tag),
             None => 0,
         }
     }
@@ -126,7 +120,10 @@ impl World {
         ensures { (run : Run) → IsWorldOf self.now run → result ≡ waiting_at run system tag.now }
     {
         match self.systems.get(system) {
-            Some(tosser) => count_from(tosser, tosser.filed() - tosser.waiting(), tag),
+            Some(found) => {
+                let base = found.base();
+                count_from(base, base.cursor(), tag)
+            }
             None => 0,
         }
     }
@@ -165,14 +162,14 @@ impl World {
     pub fn links(&self, system: usize) -> Option<&LinkFile>
         ensures { (run : Run) → IsWorldOf self.now run → option_copied result ≡ option_map (λ s. s.file) (nth system run.systems) }
     {
-        Some(self.systems.get(system)?.links())
+        Some(&self.systems.get(system)?.links)
     }
 
     /// The message of this number that the system has, counted from 0 in order of filing.
     pub fn message(&self, system: usize, i: usize) -> Option<&Filed>
         ensures { (run : Run) → IsWorldOf self.now run → option_copied result ≡ message_at run system i }
     {
-        self.systems.get(system)?.message(i)
+        self.systems.get(system)?.base().message(i)
     }
 
     /// Whom the packet is for.
@@ -198,26 +195,26 @@ impl World {
         ensures too_many { (run : Run) → IsWorldOf self.now run → OfSystem result (nth system run.systems) (λ saved s. ReportsTooMany (is_countable s.base s.cursor) saved) }
         ensures none { result ≡ None → Keeps (W.contents writer.old) (W.contents writer.new) × (W.failures writer.new ≡ W.failures writer.old) }
     {
-        Some(self.systems.get(system)?.save(writer))
+        Some(self.systems.get(system)?.base().save(writer))
     }
 }
 
-fn count_from<S: BuildHasher>(tosser: &Tosser<S>, from: usize, tag: &[u8]) -> usize
-    ensures { result ≡ area_count tag.now (drop from tosser.now.base) }
+fn count_from(base: &Base<RandomState>, from: usize, tag: &[u8]) -> usize
+    ensures { result ≡ area_count tag.now (drop from base.now.messages) }
 {
     let mut count = 0;
-    for i in from..tosser.filed() {
-        if is_of_area(tosser, i, tag) {
+    for i in from..base.len() {
+        if is_of_area(base, i, tag) {
             count += 1;
         }
     }
     count
 }
 
-fn is_of_area<S: BuildHasher>(tosser: &Tosser<S>, i: usize, tag: &[u8]) -> bool
-    ensures { result ≡ unwrap_or (option_map (λ m. bytes_eq m.echo.tag tag.now) (slice_get tosser.now.base i)) false }
+fn is_of_area(base: &Base<RandomState>, i: usize, tag: &[u8]) -> bool
+    ensures { result ≡ unwrap_or (option_map (λ m. bytes_eq m.echo.tag tag.now) (slice_get base.now.messages i)) false }
 {
-    match tosser.message(i) {
+    match base.message(i) {
         Some(message) => {
             let echo = &message.echo;
             echo.tag.as_slice() == tag
@@ -231,17 +228,20 @@ fn count_missing(packets: &[Exported]) -> usize
 {
     let mut count = 0;
     'packets: for packet in packets {
-        if packet.is_missing() {
+        if !packet.came {
             count += 1;
         }
     }
     count
 }
 
-fn all_scanned(systems: &[Tosser<RandomState>]) -> bool
+fn all_scanned(systems: &[System]) -> bool
     ensures { result ≡ list_all (λ s. nat_le (length s.base) s.cursor) systems.now }
 {
-    systems.iter().all(|tosser| tosser.waiting() == 0)
+    systems.iter().all(|system| {
+        let base = system.base();
+        base.len() <= base.cursor()
+    })
 }
 
 fn destination_at(packets: &[Exported], k: usize) -> Option<Address>

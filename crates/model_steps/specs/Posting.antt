@@ -1,12 +1,11 @@
 -- Posting: the message filed for a draft, and why a draft is refused.
 pub use Rattle.echo_filed.specs.Filed.{has_id}
-use Rattle.std.specs.Prelude.{◌≡◌, ℕ, ◌⊎◌, ◌==◌, ◌||◌, not, nat_lt, Bool, true, false, List, [], ◌∷◌, ◌++◌, length, codes, if◌then◌else◌, Option, Some, None, is_none, Result, Ok, Err}
+use Rattle.std.specs.Prelude.{◌≡◌, ℕ, ◌⊎◌, ◌==◌, ◌||◌, not, nat_lt, Bool, true, false, List, [], ◌∷◌, ◌++◌, length, codes, if◌then◌else◌, Option, Some, None, is_none}
 use Rattle.std.specs.List.{list_any}
 use Rattle.echo_addr.specs.Address.{address_text}
 use Rattle.echo_text.specs.{Lines.{lines, msgid_word, origin_word, reply_word, trimmed}, Ids.{id_of, is_zero}}
 use Rattle.echo_packet.specs.Message.{max_name, max_subject}
-use Rattle.model_steps.specs.{declared.draft.Draft.Draft, declared.stamp.Stamp.Stamp, declared.fault.PostFault.PostFault, Stamps.date_of, Stamps.is_stamp}
-use Rattle.model_steps.specs.{SystemState.SystemState, SystemState.state_with, ReplyIds.is_reply_id}
+use Rattle.model_steps.specs.{declared.draft.Draft.Draft, declared.stamp.Stamp.Stamp, declared.fault.PostFault.PostFault, ReplyIds.is_reply_id, Stamps.date_of, Stamps.is_stamp}
 use Rattle.model_steps.specs.declared.fault.PostFault.TheVariants as fault
 use Rattle.echo_links.specs.Links.{LinkFile, has_area, upper}
 use Rattle.echo_filed.specs.Filed.{Filed, id_line}
@@ -90,9 +89,3 @@ abbrev pub IsPostFault : LinkFile → List Filed → List ℕ → Draft → ℕ 
 IsPostFault file base tag draft serial stamp fault.Memory =
     (post_refusal file base tag draft serial stamp ≡ None) ⊎ (post_refusal file base tag draft serial stamp ≡ Some fault.KnownSerial)
 IsPostFault file base tag draft serial stamp refused = post_refusal file base tag draft serial stamp ≡ Some refused
-
--- A posting appends the message to the base, or a refusal changes nothing.
-abbrev pub PostStep : {A : Type 0} → SystemState → List ℕ → Draft → ℕ → Stamp → Result A PostFault → SystemState → Type 0
-PostStep old tag draft serial stamp (Ok done) new =
-    (post_refusal old.file old.base tag draft serial stamp ≡ None) × (new ≡ state_with old (Some (posted old.file tag draft serial stamp)))
-PostStep old tag draft serial stamp (Err refused) new = IsPostFault old.file old.base tag draft serial stamp refused × (new ≡ old)

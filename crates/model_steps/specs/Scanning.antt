@@ -1,11 +1,10 @@
 -- Scanning: the packets of the waiting messages.
-use Rattle.std.specs.Prelude.{◌≡◌, ℕ, ◌-◌, ◌&&◌, not, Bool, true, false, List, [], ◌∷◌, ◌++◌, map, length, drop, filter, replicate, option_map, unwrap_or, Result, Ok, Err}
+use Rattle.std.specs.Prelude.{ℕ, ◌-◌, ◌&&◌, not, Bool, false, List, [], ◌∷◌, ◌++◌, map, drop, filter, replicate, option_map, unwrap_or}
 use Rattle.std.specs.List.{flat_map, list_any}
 use Rattle.echo_addr.specs.{declared.address.Address.Address, Address.net_node_of}
 use Rattle.echo_packet.specs.{declared.header.Header.Header, Message.Message}
 use Rattle.echo_text.specs.Echo.{EchoText}
-use Rattle.model_steps.specs.{declared.packet.Packet.Packet, declared.stamp.Stamp.Stamp, declared.fault.ScanFault.ScanFault, Stamps.is_stamp, SystemState.SystemState}
-use Rattle.model_steps.specs.declared.fault.ScanFault.TheVariants as fault
+use Rattle.model_steps.specs.{declared.packet.Packet.Packet, declared.stamp.Stamp.Stamp}
 use Rattle.echo_links.specs.Links.{LinkFile, links_of, same_address}
 use Rattle.echo_filed.specs.{Sets.address_set, Sets.entry_set, Sets.same_entry, Written.text_of, Filed.Filed}
 
@@ -88,11 +87,3 @@ packets_of file stamp waiting = map (packet_to file stamp waiting) (recipients f
 -- The packets of a scan, made from the messages after the cursor.
 unfoldable pub scanned : LinkFile → List Filed → ℕ → Stamp → List Packet
 scanned file base cursor stamp = packets_of file stamp (drop cursor base)
-
--- A scan returns the packets and moves the cursor to the end of the base, or a refusal changes nothing.
-abbrev pub ScanStep : SystemState → Stamp → Result (List Packet) ScanFault → SystemState → Type 0
-ScanStep old stamp (Ok packets) new =
-    (is_stamp stamp ≡ true) × (packets ≡ scanned old.file old.base old.cursor stamp)
-    × (new ≡ record { file = old.file; base = old.base; cursor = length old.base })
-ScanStep old stamp (Err fault.BadStamp) new = (is_stamp stamp ≡ false) × (new ≡ old)
-ScanStep old stamp (Err fault.Memory) new = (is_stamp stamp ≡ true) × (new ≡ old)

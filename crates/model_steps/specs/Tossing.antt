@@ -1,10 +1,10 @@
 -- Tossing: the outcome of a received message.
-use Rattle.std.specs.Prelude.{◌≡◌, ℕ, ◌==◌, not, true, false, List, [], ◌∷◌, ◌++◌, if◌then◌else◌, Option, Some, None, option_to_list, Result, Ok, Err}
+use Rattle.std.specs.Prelude.{◌≡◌, ℕ, ◌==◌, not, true, false, List, [], ◌∷◌, ◌++◌, if◌then◌else◌, Option, Some, None, option_to_list}
 use Rattle.echo_addr.specs.declared.address.Address.{Address}
 use Rattle.echo_packet.specs.{declared.header.Header.Header, Message.Message}
 use Rattle.echo_text.specs.{declared.fault.TextFault.TextFault, Refusal.text_refusal}
 use Rattle.echo_text.specs.declared.fault.TextFault.TheVariants as text
-use Rattle.model_steps.specs.{declared.outcome.Outcome.Outcome, SystemState.SystemState, SystemState.state_with}
+use Rattle.model_steps.specs.declared.outcome.Outcome.{Outcome}
 use Rattle.model_steps.specs.declared.outcome.Outcome.TheVariants as outcome
 use Rattle.echo_links.specs.Links.{LinkFile, has_area, is_link}
 use Rattle.echo_filed.specs.{Written.echo_of, Filed.Filed, Filed.key_of}
@@ -62,12 +62,6 @@ IsOutcome file base from packed outcome.Known =
     (text_refusal packed.text ≡ None) × (has_area file (echo_of packed.text).tag ≡ true) × (is_link file (echo_of packed.text).tag from ≡ true)
     × (is_known base (key_of (received from packed)) ≡ true)
 IsOutcome file base from packed outcome.Filed = IsToBeFiled file base from packed
-
--- A toss appends the message to the base if its outcome is `Filed`. Otherwise, or out of memory, nothing changes.
-abbrev pub TossStep : {E : Type 0} → SystemState → Address → Message → Result Outcome E → SystemState → Type 0
-TossStep old sender packed (Ok answer) new =
-    (answer ≡ toss_outcome old.file old.base sender packed) × (new ≡ state_with old (tossing old.file old.base sender packed))
-TossStep old sender packed (Err refused) new = new ≡ old
 
 -- The base after tossing messages of one sender in order.
 abbrev pub tossed : LinkFile → List Filed → Address → List Message → List Filed

@@ -1,5 +1,5 @@
-//! The steps of a system: how posting, tossing, scanning and purging change its base (`PostStep`, `TossStep`,
-//! `ScanStep` and `PurgeStep` of specs/). Each keeps the rules of a base. Begin with specs/Posting and specs/Tossing.
+//! The steps of a system: how posting, tossing, scanning and purging change its base (`posting`, `tossing`, `scanned`
+//! and `purged` of specs/). Each keeps the rules of a base. Begin with specs/Posting and specs/Tossing.
 #![tactic(auto)]
 
 mod draft;

@@ -1,8 +1,7 @@
 -- A device that failed.
-use Rattle.std.proofs.{Common.{◌≤◌, ◌⊎◌, inl, inr, ⊎_elim, ℕ, List, refl, arith}, lemmas.Bool.cases_lt}
-use Rattle.disk_io.{specs.{Device.Failed, Disk.DiskState, Runs.ChangesNothing}, proofs.Moments.no_call}
-use Rattle.cmd_status.specs.declared.fault.Fault.{Fault}
-use Rattle.station.specs.{Faults.FailsAt, Links.NoLinks, Opening.IsNotOpened, Place.Place}
+use Rattle.{std.proofs.{Common.{◌≤◌, ◌⊎◌, inl, inr, ⊎_elim, ℕ, List, refl, arith}, lemmas.Bool.cases_lt}, disk_io.specs.{Device.Failed, Disk.DiskState}}
+use Rattle.{disk_io.proofs.Moments.no_call, cmd_status.specs.declared.fault.Fault.Fault, station.specs.{Faults.FailsAt, Links.NoLinks, Opening.IsNotOpened}}
+use Rattle.station.specs.Place.{Place}
 
 -- a failure in a part of a run is one in the run
 pub failed_wider : (a b c d : ℕ) → a ≤ b → c ≤ d → Failed b c → Failed a d
@@ -23,18 +22,6 @@ pub no_links_wider : (d : DiskState) (links : List ℕ) (P F : Type 0) (fault : 
 no_links_wider d links P F fault more none = grind arith
 
 -- no call was made
-pub nothing_done : (d : DiskState) → ChangesNothing d d
-nothing_done d = record {
-  seen = λ m. refl;
-  no_more = λ c left. left;
-  named = λ m off is. is;
-  flushed = λ m off is. is;
-  alone = λ m off is. is;
-  run = no_call d d.may_leave (λ c left. left);
-  keeps = λ t c le left. left;
-  honest = λ is. is;
-}
-
 pub never_opened : (place : Place) (Shut : Fault → Type 0) (d : DiskState) (fault : Fault) → Shut fault → IsNotOpened place Shut d d fault
 never_opened place Shut d fault shut = record {
   cause = λ honest. shut;

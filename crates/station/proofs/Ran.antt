@@ -1,14 +1,12 @@
 -- A command on an opened store, as a command on the station.
 use Rattle.std.{proofs.Common.{◌≡◌, inl, inr, ⊎_elim, ◌∙◌, ℕ, List, Result, Ok, Err, ap, sym, subst}, specs.Prelude.{Bool, true, false, IfErr, OnOk}}
-use Rattle.base_file.specs.Base.{Base}
-use Rattle.disk_io.{specs.{Disk.{DiskState, Files}, Runs.{ChangesNothing, LeavesOnly}}, proofs.Moments.{then_nothing, then_run, weaker_run}}
+use Rattle.{base_file.specs.Base.Base, disk_io.specs.{Disk.{DiskState, Files}, Runs.{ChangesNothing, LeavesOnly}}}
+use Rattle.disk_io.proofs.Moments.{then_nothing, then_run, weaker_run}
 use Rattle.base_store.specs.Store.{CommitsNothing, HasStoreCause, IsSameStore, KeepsOthers, LooksOn, MayCommit, SameOtherFiles, LeavesEither, LeavesCommitted, StoreState}
-use Rattle.base_store.proofs.Runs.{same_store}
-use Rattle.cmd_store.specs.{Answered.HasCommitted, Answered.MayMake, Answered.RepresentsMade, Answered.StaysWhereMet, Bounded.IsPast, Bounded.StaysTooMany, Stops.store_answer}
-use Rattle.cmd_store.specs.declared.command_error.CommandError.{CommandError, TheVariants.Met, TheVariants.Store}
+use Rattle.{base_store.proofs.Runs.same_store, cmd_store.specs.Answered.{HasCommitted, MayMake, RepresentsMade, StaysWhereMet}}
+use Rattle.cmd_store.specs.{Bounded.{IsPast, StaysTooMany}, Stops.store_answer, declared.command_error.CommandError.{CommandError, TheVariants.{Met, Store}}}
 use Rattle.station.specs.{Place.{IsOfPlace, KeepsElsewhere, Place, SameElsewhere, RepresentsAlone, RepresentsOrWasLeft}, Opening.IsOpenFor}
-use Rattle.station.specs.Running.{EndsSound, IsKept, IsRunOn, MadeOrWasLeft, NeedsBase, RepresentsAsBefore, RepresentsWhereMet}
-use Rattle.echo_filed.specs.Filed.{Filed}
+use Rattle.{station.specs.Running.{EndsSound, IsKept, IsRunOn, MadeOrWasLeft, NeedsBase, RepresentsAsBefore, RepresentsWhereMet}, echo_filed.specs.Filed.Filed}
 
 same_seen : (a b : DiskState) → ChangesNothing a b → a.seen ≡ b.seen
 same_seen a b quiet =

@@ -1,7 +1,6 @@
 -- The size of a file, or its absence.
 use Rattle.std.{proofs.Common.{◌≡◌, ◌↔◌, ℕ, Bool, true, false, List, length, Option, Some, None, refl, ap}, specs.Prelude.{IsSome, IsTrue}}
-use Rattle.disk_io.specs.Disk.{bytes_in}
-use Rattle.station.specs.Faults.{HasSize}
+use Rattle.{disk_io.specs.Disk.bytes_in, station.specs.Faults.HasSize}
 
 -- after a failed test for a file there is no size
 pub no_size : (file : Option (List ℕ)) (found : Bool) → (IsTrue found ↔ IsSome file) → found ≡ false → HasSize file None

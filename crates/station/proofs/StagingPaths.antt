@@ -1,9 +1,7 @@
 -- A staging path is in the folder of its path.
 use Rattle.std.proofs.Common.{◌≡◌, ◌≢◌, ◌∙◌, ◌<◌, ◌^◌, ℕ, List, ◌++◌, All, codes, length, sym, subst, ap, arith, append_assoc, length-append}
-use Rattle.std.{proofs.lemmas.List.Elements.{All-append, All-from_recursion}, specs.Fmt.decimal}
-use Rattle.echo_addr.{specs.{declared.address.Address.Address, Address.IsAddress}, proofs.Decimals.{IsDigit, digits_of_decimal}}
-use Rattle.echo_filed.proofs.Choices.{all_weaker}
-use Rattle.disk_io.specs.Disk.{IsIn}
+use Rattle.{std.{proofs.lemmas.List.Elements.{All-append, All-from_recursion}, specs.Fmt.decimal}, echo_addr.specs.declared.address.Address.Address}
+use Rattle.{echo_addr.{specs.Address.IsAddress, proofs.Decimals.{IsDigit, digits_of_decimal}}, echo_filed.proofs.Choices.all_weaker, disk_io.specs.Disk.IsIn}
 use Rattle.disk_atomic.specs.StagingPaths.{dotted, staging_path}
 
 -- a byte that is no slash

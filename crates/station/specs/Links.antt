@@ -1,10 +1,8 @@
 -- The link file of a station.
-use Rattle.std.specs.Prelude.{◌≡◌, ◌⊎◌, ℕ, List, Some, Ok, Err}
-use Rattle.disk_io.specs.Disk.{DiskState}
-use Rattle.echo_links.specs.{LinkLines.LinksOf, Links.LinkFile, declared.fault.LinkFault.LinkFault}
+use Rattle.{std.specs.Prelude.{◌≡◌, ◌⊎◌, ℕ, List, Some, Ok, Err}, disk_io.specs.Disk.DiskState, echo_links.specs.{LinkLines.LinksOf, Links.LinkFile}}
+use Rattle.{echo_links.specs.declared.fault.LinkFault.LinkFault, station.specs.Faults.LinksUnread, cmd_status.specs.declared.fault.Fault.Fault}
+use Rattle.cmd_status.specs.declared.fault.Fault.TheVariants.{Link}
 use Rattle.echo_links.specs.declared.fault.LinkFault.TheVariants as link
-use Rattle.station.specs.Faults.{LinksUnread}
-use Rattle.cmd_status.specs.declared.fault.Fault.{Fault, TheVariants.Link}
 
 -- The bytes of the link file read as this.
 pub record AreLinks (disk : DiskState) (links : List ℕ) (file : LinkFile) : Type 0 where

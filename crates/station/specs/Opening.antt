@@ -1,10 +1,6 @@
 -- The opening of a station as a store.
-use Rattle.std.specs.Prelude.{◌≡◌, ◌≤◌, ◌⊎◌, ℕ, List, Option, None}
-use Rattle.base_file.specs.Base.{Base}
-use Rattle.disk_io.specs.{Device.Failed, Disk.DiskState, Disk.Honestly, Runs.LeavesOnly}
-use Rattle.echo_links.specs.Links.{LinkFile}
-use Rattle.cmd_status.specs.declared.fault.Fault.{Fault}
-use Rattle.base_store.specs.Store.{StoreState}
+use Rattle.{std.specs.Prelude.{◌≡◌, ◌≤◌, ◌⊎◌, ℕ, List, Option, None}, base_file.specs.Base.Base, disk_io.specs.{Device.Failed, Disk.{DiskState, Honestly}}}
+use Rattle.{disk_io.specs.Runs.LeavesOnly, echo_links.specs.Links.LinkFile, cmd_status.specs.declared.fault.Fault.Fault, base_store.specs.Store.StoreState}
 use Rattle.station.specs.Place.{IsOfPlace, KeepsElsewhere, Place, RepresentsOrWasLeft}
 
 -- Neither lock holds a file.

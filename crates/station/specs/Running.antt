@@ -1,13 +1,9 @@
 -- A command is run on a station.
-use Rattle.std.specs.Prelude.{◌≡◌, ◌⊎◌, Bool, Result, Err, IfErr, OnOk, IsErrOf}
-use Rattle.base_file.specs.Base.{Base}
-use Rattle.disk_io.specs.{Disk.DiskState, Disk.Files, Runs.ChangesNothing, Runs.LeavesOnly}
-use Rattle.echo_links.specs.Links.{LinkFile}
-use Rattle.cmd_status.specs.{declared.fault.Fault.Fault, Devices.Output}
-use Rattle.base_store.specs.{Store.StoreState, declared.store_error.StoreError.TheVariants.Damaged, declared.store_error.StoreError.TheVariants.Device}
-use Rattle.cmd_store.specs.{declared.command_error.CommandError.{CommandError, TheVariants.{Met, Store}}, Bounded.IsPast}
-use Rattle.echo_filed.specs.Filed.{Filed}
-use Rattle.station.specs.{Opening.IsOpenFor, Place.IsOfPlace, Place.Place, Place.SameElsewhere, Place.RepresentsOrWasLeft}
+use Rattle.{std.specs.Prelude.{◌≡◌, ◌⊎◌, Bool, Result, Err, IfErr, OnOk, IsErrOf}, base_file.specs.Base.Base, disk_io.specs.Disk.{DiskState, Files}}
+use Rattle.{disk_io.specs.Runs.{ChangesNothing, LeavesOnly}, echo_links.specs.Links.LinkFile, cmd_status.specs.{declared.fault.Fault.Fault, Devices.Output}}
+use Rattle.base_store.specs.{Store.StoreState, declared.store_error.StoreError.TheVariants.{Damaged, Device}}
+use Rattle.{cmd_store.specs.{declared.command_error.CommandError.{CommandError, TheVariants.{Met, Store}}, Bounded.IsPast}, echo_filed.specs.Filed.Filed}
+use Rattle.station.specs.{Opening.IsOpenFor, Place.{IsOfPlace, Place, SameElsewhere, RepresentsOrWasLeft}}
 
 -- The files hold a base that the command makes, as they are seen and after any crash.
 pub record IsKept (place : Place) (IsMade : Base → Type 0) (now : DiskState) : Type 0 where

@@ -1,7 +1,6 @@
 //! The link file alone, and other files that are locked.
-ghost use Rattle.std.specs.Prelude.{◌≡◌, ◌≤◌, ◌⊎◌, length, IfErr, IfOk, OnOk, Some, None};
-ghost use Rattle.disk_io.specs.{Device.Failed, Disk.Honestly, Runs.ChangesNothing};
-ghost use Rattle.station.specs.{Faults.FailsAt, Faults.HaveFailed, Faults.LinksUnread, Faults.most_links, Links.AreLinks, Links.NoLinks, Opening.AreFree};
+ghost use Rattle.{std.specs.Prelude.{◌≡◌, ◌≤◌, ◌⊎◌, length, IfErr, IfOk, OnOk, Some, None}, disk_io.specs.{Device.Failed, Disk.Honestly, Runs.ChangesNothing}};
+ghost use Rattle.station.specs.{Faults.{FailsAt, HaveFailed, LinksUnread, most_links}, Links.{AreLinks, NoLinks}, Opening.AreFree};
 
 use crate::locks::Locks;
 use crate::reading::{fault_at, read_links};

@@ -1,10 +1,7 @@
 //! A command is run on a station.
-ghost use Rattle.std.specs.Prelude.{◌⊎◌, IsErrOf, OnOk};
-ghost use Rattle.disk_io.specs.{Disk.Honestly, Runs.ChangesNothing};
-ghost use Rattle.cmd_status.specs.Devices.{output_of};
-ghost use Rattle.station.specs.{Opening.AreFree, Opening.HaveFailed, Place.KeepsElsewhere, Running.EndsSound, Running.IsNotRun, Running.IsRefusedFull, Running.NeedsBase, Running.RunsIn};
-ghost use Rattle.base_store.specs.declared.store_error.StoreError.TheVariants.{TooMany};
-ghost use Rattle.cmd_store.specs.declared.command_error.CommandError.TheVariants.{Store};
+ghost use Rattle.{std.specs.Prelude.{◌⊎◌, IsErrOf, OnOk}, disk_io.specs.{Disk.Honestly, Runs.ChangesNothing}, cmd_status.specs.Devices.output_of};
+ghost use Rattle.station.specs.{Opening.{AreFree, HaveFailed}, Place.KeepsElsewhere, Running.{EndsSound, IsNotRun, IsRefusedFull, NeedsBase, RunsIn}};
+ghost use Rattle.{base_store.specs.declared.store_error.StoreError.TheVariants.TooMany, cmd_store.specs.declared.command_error.CommandError.TheVariants.Store};
 
 use crate::before::BeforeCommand;
 use crate::locks::Locks;

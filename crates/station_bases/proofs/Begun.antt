@@ -1,16 +1,12 @@
 -- A folder that was begun, as an open station.
-use Rattle.std.{proofs.Common.{◌≤◌, ◌⊎◌, ℕ, Bool, List, Result, Ok, Err, ⊎_elim, inl, inr}, specs.Prelude.IfErr}
-use Rattle.base_file.specs.Base.{Base}
-use Rattle.disk_io.{specs.{Disk.{DiskState, Honestly}, Runs.{ChangesNothing, LeavesOnly}}, proofs.Moments.weaker_run}
-use Rattle.base_log.{proofs.Paths.not_own, specs.Moments.KeepsOutside}
-use Rattle.station_bases.specs.{Opening.IsBegun, Opening.IsLockedOut, Opening.IsOfFolder, Opening.IsShut, InFolder.IsFolderShut, InFolder.IsOwnLinks, InFolder.folder_place}
-use Rattle.base_folder.specs.Wrong.{IsSound}
-use Rattle.base_folder_store.specs.Held.{RepresentsBase, RepresentsBaseAlone, RepresentsBaseOrWasLeft}
-use Rattle.echo_links.specs.Links.{LinkFile}
-use Rattle.cmd_status.specs.declared.fault.Fault.{Fault}
-use Rattle.base_store.specs.Store.{StoreState}
-use Rattle.station.proofs.Failures.{fails_wider, no_links_wider, not_locked, nothing_done}
-use Rattle.station.specs.{Faults.FailsAt, Opening.IsNotOpened, Opening.IsOpened, Place.KeepsElsewhere, Place.RepresentsOrWasLeft}
+use Rattle.{std.{proofs.Common.{◌≤◌, ◌⊎◌, ℕ, Bool, List, Result, Ok, Err, ⊎_elim, inl, inr}, specs.Prelude.IfErr}, base_file.specs.Base.Base}
+use Rattle.{disk_io.{specs.{Disk.{DiskState, Honestly}, Runs.{ChangesNothing, LeavesOnly}}, proofs.Moments.weaker_run}, base_log.proofs.Paths.not_own}
+use Rattle.{base_log.specs.Moments.KeepsOutside, station_bases.specs.Opening.{IsBegun, IsLockedOut, IsOfFolder, IsShut}}
+use Rattle.{station_bases.specs.InFolder.{IsFolderShut, IsOwnLinks, folder_place}, base_folder.specs.Wrong.IsSound}
+use Rattle.{base_folder_store.specs.Held.{RepresentsBase, RepresentsBaseAlone, RepresentsBaseOrWasLeft}, echo_links.specs.Links.LinkFile}
+use Rattle.{cmd_status.specs.declared.fault.Fault.Fault, base_store.{specs.Store.StoreState, proofs.Runs.quiet_disk}}
+use Rattle.station.{proofs.Failures.{fails_wider, no_links_wider, not_locked}, specs.{Faults.FailsAt, Opening.{IsNotOpened, IsOpened}}}
+use Rattle.station.specs.Place.{KeepsElsewhere, RepresentsOrWasLeft}
 
 module _ (keyed : ℕ → ℕ → List ℕ → ℕ) (path : List ℕ) (d0 : DiskState) where
   elsewhere_of : (d1 : DiskState) → KeepsOutside path d0 d1 → KeepsElsewhere (folder_place keyed path) d0 d1
@@ -58,7 +54,7 @@ module _ (keyed : ℕ → ℕ → List ℕ → ℕ) (path : List ℕ) (d0 : Disk
   pub folder_locked_out : {T : Type 0} (links base : List ℕ) (strange : Bool) (P Q F : Type 0) (result : Result T Fault) → (P → F) → (Q → F) → IfErr result (λ fault. FailsAt links P fault ⊎ FailsAt base Q fault)
       → IfErr result (IsFolderShut links base path strange F d0 d0)
   folder_locked_out links base strange P Q F (Ok done) first second fails = tt
-  folder_locked_out links base strange P Q F (Err fault) first second fails = inl (record { same = nothing_done d0; cause = not_locked d0 links base P Q F fault first second fails })
+  folder_locked_out links base strange P Q F (Err fault) first second fails = inl (record { same = quiet_disk d0; cause = not_locked d0 links base P Q F fault first second fails })
 
   pub is_not_opened : (d1 : DiskState) (links base : List ℕ) (strange : Bool) (failed : Type 0) (fault : Fault) → Honestly d1 (IsFolderShut links base path strange failed d0 d1 fault)
       → Honestly d1 ((b : Base) → RepresentsBase keyed path b d0.seen → LeavesOnly d0 d1 (RepresentsBaseOrWasLeft keyed path d0 b)) → KeepsOutside path d0 d1

@@ -1,18 +1,16 @@
 -- The entries of the first messages of a base file, of one more, and of all.
 use Rattle.std.proofs.Common.{◌≡◌, ℕ, ◌+◌, ◌-◌, ◌*◌, ◌/◌, ◌<◌, ◌≤◌, ◌^◌, nat_lt, Bool, false, List, [], ◌∷◌, ◌++◌, length, map, take, drop, refl, sym, ap, subst, ◌∙◌, Some, arith, append_assoc, length-append, length-drop}
 use Rattle.std.proofs.lemmas.List.{append-nil, drop-append-le, drop-drop, drop_at, length-map, length-take-le, take-append-drop, take_at}
-use Rattle.std.specs.List.{AllByRecursion, flat_map}
-use Rattle.echo_filed.specs.{Filed.Filed, Stored.Stored, Stored.message_in, Stored.stored_bytes, declared.key.Key.Key, declared.stored.Version.Version, declared.stored.Version.TheVariants.Second}
-use Rattle.base_file.{specs.BaseFile.{AreSound, BaseOf, Begins, head_bytes, magic, stored_from}, proofs.{SavedAgain.saved_again, SavedMessages.saved_parts}}
-use Rattle.base_file.specs.{Alone.MayStandAlone, Base.Base, Base.IsBase, Base.is_known, Pieces.BeginsWith, Pieces.IsJudged, declared.base.loading.Head.Head}
+use Rattle.{std.specs.List.{AllByRecursion, flat_map}, echo_filed.specs.{Filed.Filed, Stored.{Stored, message_in, stored_bytes}, declared.key.Key.Key}}
+use Rattle.{echo_filed.specs.declared.stored.Version.{Version, TheVariants.Second}, station_bases.proofs.EntryMore.{keep_more, head_long as head_size}}
+use Rattle.base_file.specs.{BaseFile.{AreSound, BaseOf, Begins, head_bytes, magic, stored_from}, Alone.MayStandAlone, Base.{Base, IsBase, is_known}}
+use Rattle.base_file.{specs.{Pieces.{BeginsWith, IsJudged}, declared.base.loading.Head.Head}, proofs.{SavedAgain.saved_again, SavedMessages.saved_parts}}
+use Rattle.base_file.proofs.{LoneMessages.represented_alone, Loaded.{all_filed, loaded_is_base}, Loading.{say_more, whole_loads}}
+use Rattle.{base_file.proofs.Pieces.{head_begins, next_begins}, cmd_status.specs.Inputs.IsBaseGiven}
+use Rattle.base_store.{specs.{Keys.{digested, digested_key, entry, keys_from}, Sip.sip_digest, declared.sip.SipDigest.SipDigest}, proofs.Digests.of_key}
+use Rattle.{base_store.proofs.Placed.{keys_append, keys_long}, station_bases.specs.Entries.{AreEntriesOf, HoldEntries, KeepForms, entry_digest, message_bytes}}
+use Rattle.station_bases.specs.{EntryOpening.{AreJudged, IsPartOf, IsSoundIn}, declared.{entry_opening.Piece.Piece, entries.Entries.Entries}}
 use Rattle.base_file.specs.declared.piece.Next.TheVariants as next
-use Rattle.base_file.proofs.{LoneMessages.represented_alone, Loaded.all_filed, Loaded.loaded_is_base, Loading.say_more, Loading.whole_loads, Pieces.head_begins, Pieces.next_begins}
-use Rattle.cmd_status.specs.Inputs.{IsBaseGiven}
-use Rattle.base_store.specs.{Keys.digested, Keys.digested_key, Keys.entry, Keys.keys_from, Sip.sip_digest, declared.sip.SipDigest.SipDigest}
-use Rattle.base_store.proofs.{Digests.of_key, Placed.keys_append, Placed.keys_long}
-use Rattle.station_bases.specs.Entries.{AreEntriesOf, HoldEntries, KeepForms, entry_digest, message_bytes}
-use Rattle.station_bases.specs.{EntryOpening.AreJudged, EntryOpening.IsPartOf, EntryOpening.IsSoundIn, declared.entry_opening.Piece.Piece, declared.entries.Entries.Entries}
-use Rattle.station_bases.proofs.EntryMore.{keep_more, head_long as head_size}
 
 all_alone : (cursor : ℕ) (earlier : List Filed) (all : List Stored) → AreSound Second cursor earlier all → AllByRecursion MayStandAlone all
 all_alone cursor earlier [] sound = tt

@@ -1,11 +1,9 @@
 -- The entries that a look-up reads.
-use Rattle.std.proofs.Common.{◌≡◌, ℕ, List, refl}
-use Rattle.base_log.specs.Standing.{BaseBytes}
-use Rattle.base_file.specs.Base.{Base}
+use Rattle.{std.proofs.Common.{◌≡◌, ℕ, List, refl}, base_log.specs.Standing.BaseBytes, base_file.specs.Base.Base}
 use Rattle.base_store.{specs.{Keys.{AreWhereRecorded, digested_key}, Sip.sip_digest}, proofs.Placed.stand_where_recorded}
 use Rattle.base_folder_store.{specs.{Answers.HaveDigest, Held.HoldsBase}, proofs.Seen.{id_digest, key_digest}}
-use Rattle.echo_filed.specs.{Filed.Filed, Filed.has_id, Filed.key_of, Filed.same_key, declared.key.Key.Key}
-use Rattle.station_bases.specs.{Entries.AreEntriesOf, Entries.entry_digest, Entries.message_bytes, declared.entries.Entries.Entries}
+use Rattle.echo_filed.specs.{Filed.{Filed, has_id, key_of, same_key}, declared.key.Key.Key}
+use Rattle.station_bases.specs.{Entries.{AreEntriesOf, entry_digest, message_bytes}, declared.entries.Entries.Entries}
 
 -- the entries and bytes, in the form of a base folder
 abbrev as_folder : List ℕ → Entries → ℕ → BaseBytes

@@ -1,16 +1,14 @@
 -- One more message after a base file, and all messages scanned.
 use Rattle.std.proofs.Common.{◌≡◌, ℕ, ◌+◌, ◌-◌, ◌/◌, ◌<◌, ◌≤◌, ◌^◌, ◌&&◌, nat_lt, Bool, false, true, List, [], ◌∷◌, ◌++◌, length, take, drop, refl, sym, ap, subst, ◌∙◌, Some, Ok, ◌⊎◌, arith, append_assoc, length-append, length-drop, ⊎_elim}
 use Rattle.std.proofs.lemmas.{Bool.{cases_lt, le-ltb, lt-ltb, ltb-true, ltb-false}, List.{append-nil, drop_at, length-take-le, take_all, take_at}}
-use Rattle.std.specs.{Prelude.slice_get, List.flat_map, List.list_all}
-use Rattle.echo_filed.specs.{Filed.Filed, Filed.IsFiled, Filed.key_of, Stored.is_short, Stored.is_short_enough, Stored.stored_as, Stored.stored_bytes, declared.stored.Version.TheVariants.Second}
-use Rattle.base_file.{specs.BaseFile.{LoadOf, head_bytes, is_countable, saved_bytes, stored_at, stored_from}, proofs.Saved.saved_loads}
-use Rattle.base_file.specs.{Alone.IsStoredAlone, Base.Base, Base.IsBase, Base.is_known}
+use Rattle.{std.specs.{Prelude.slice_get, List.{flat_map, list_all}}, echo_filed.specs.Filed.{Filed, IsFiled, key_of}}
+use Rattle.echo_filed.specs.{Stored.{is_short, is_short_enough, stored_as, stored_bytes}, declared.stored.Version.TheVariants.Second}
+use Rattle.base_file.specs.{BaseFile.{LoadOf, head_bytes, is_countable, saved_bytes, stored_at, stored_from}, Alone.IsStoredAlone}
+use Rattle.{base_file.{specs.Base.{Base, IsBase, is_known}, proofs.Saved.saved_loads}, station_bases.specs.declared.entries.Entries.Entries}
 use Rattle.base_file.proofs.SavedMessages.{all_more, countable_if, countable_parts, enough_more, saved_parts, stored_here}
-use Rattle.base_store.specs.{Keys.FolderRepresents, Keys.digested, Keys.entry, Store.all_scanned, Store.with_message, Sip.sip_digest, declared.sip.SipDigest.SipDigest}
-use Rattle.base_store.proofs.Placed.{stand_where_recorded}
-use Rattle.base_folder_store.specs.{Added.with_stored, Held.HoldsBase, Held.digest_by}
-use Rattle.base_log.specs.Standing.{BaseBytes}
-use Rattle.station_bases.specs.{Entries.{HoldEntries, KeepForms, entry_digest, file_bytes, message_bytes}, declared.entries.Entries.Entries}
+use Rattle.base_store.specs.{Keys.{FolderRepresents, digested, entry}, Store.{all_scanned, with_message}, Sip.sip_digest, declared.sip.SipDigest.SipDigest}
+use Rattle.{base_store.proofs.Placed.stand_where_recorded, base_folder_store.specs.{Added.with_stored, Held.{HoldsBase, digest_by}}}
+use Rattle.{base_log.specs.Standing.BaseBytes, station_bases.specs.Entries.{HoldEntries, KeepForms, entry_digest, file_bytes, message_bytes}}
 
 -- a message with the same stored form before and after its scan
 same_form : (short : Bool) (c d place : ℕ) → c ≤ d → (nat_lt place c ≡ false → short ≡ false) → (nat_lt place c && short) ≡ (nat_lt place d && short)

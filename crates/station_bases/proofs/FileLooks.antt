@@ -1,26 +1,13 @@
 -- The reasons of failed calls of a store on a base file.
-use Rattle.std.proofs.Common.{◌≡◌, ◌≤◌, ◌⊎◌, ◌/◌, ◌^◌, ℕ, Bool, false, List, length, Result, Ok, Err, Some, refl, subst}
-use Rattle.std.specs.Prelude.{All, IsErrOf, OnErr, OnOk, ◌≢◌}
-use Rattle.disk_io.specs.{Disk.DiskState, Disk.Honestly, Disk.bytes_in, Runs.LeavesOnly, Runs.OneStepOn}
-use Rattle.disk_atomic.specs.{Changes.ChangesOnly, Changes.HasOnDisk, Replacing.Replaces, StagingPaths.staging_path}
-use Rattle.cmd_status.specs.Inputs.{IsBaseGiven}
-use Rattle.base_file.specs.{Base.Base, BaseFile.saved_bytes}
-use Rattle.base_store.specs.{Store.Commits, Store.HasStoreCause, Store.MayCommit, Store.StoreState, declared.store_error.StoreError.StoreError}
+use Rattle.std.proofs.Common.{◌≡◌, ◌≤◌, ◌⊎◌, ◌/◌, ◌^◌, ℕ, Bool, List, length, Result, Ok, Err, Some, refl, subst}
+use Rattle.{std.specs.Prelude.{All, IsErrOf, OnErr, OnOk, ◌≢◌}, disk_io.specs.{Disk.{DiskState, Honestly, bytes_in}, Runs.{LeavesOnly, OneStepOn}}}
+use Rattle.{disk_atomic.specs.{Changes.{ChangesOnly, HasOnDisk}, Replacing.Replaces, StagingPaths.staging_path}, cmd_status.specs.Inputs.IsBaseGiven}
+use Rattle.{base_file.specs.{Base.Base, BaseFile.saved_bytes}, base_store.specs.Store.{Commits, HasStoreCause, MayCommit, StoreState}}
+use Rattle.{base_store.specs.declared.store_error.StoreError.StoreError, base_folder_store.{specs.Answers.HasReadCause, proofs.Causes.on_ok_from}}
+use Rattle.station_bases.specs.{Entries.{CanFetch, HoldEntries, file_bytes}, InFile.{IsHeld, IsOfFile, file_state}, declared.entries.Entries.Entries}
+use Rattle.station_bases.{specs.declared.held.Held.{TheVariants.Apart, Held}, proofs.EntryMore.{few_held, held_loads, many_held}}
+use Rattle.station_bases.proofs.Written.{may_commit, put_now, put_run}
 use Rattle.base_store.specs.declared.store_error.StoreError.TheVariants as error
-use Rattle.base_folder_store.{specs.Answers.{Answers, HasReadCause}, proofs.{Causes.on_ok_from, Stated.not_damaged}}
-use Rattle.station_bases.specs.{Entries.CanFetch, Entries.HoldEntries, Entries.file_bytes, InFile.IsHeld, InFile.IsOfFile, InFile.file_state, declared.entries.Entries.Entries}
-use Rattle.station_bases.specs.declared.held.Held.{TheVariants.Apart, Held}
-use Rattle.station_bases.proofs.{EntryMore.few_held, EntryMore.held_loads, EntryMore.many_held, Written.may_commit, Written.put_now, Written.put_run}
-
-module _ {S T : Type 0} (path own : List ℕ) (held later : Held S T) (d0 d1 : DiskState) (p0 p1 : ℕ) (u0 u1 : Bool) where
-  pub file_cause : {A : Type 0} (P : Base → A → Type 0) (before now : ℕ) (r : Result A StoreError) → HasReadCause before now r → Honestly d1 ((b : Base) → IsHeld d0 path held b → Answers (P b) r)
-      → OnOk r (u0 ≡ false → u1 ≡ false) → HasStoreCause (file_state d0 path own held p0 u0) (file_state d1 path own later p1 u1) before now r
-  file_cause P before now r cause answers sound = record {
-    later = cause.later;
-    failed = cause.failed;
-    damaged = λ honest is base keeps. not_damaged (P base) r (answers honest base keeps) is;
-    undamaged = sound;
-  }
 
 -- a commit of a base file with its messages in the file
 module _ (S T : Type 0) (path own : List ℕ) (e f : Entries) (d0 d1 : DiskState) (p0 p1 : ℕ) (u : Bool) where

@@ -1,15 +1,12 @@
 -- The disk of a base folder after its use for other files.
 use Rattle.std.proofs.Common.{◌≡◌, ◌≢◌, ◌↔◌, ◌≤◌, ◌++◌, ℕ, Bool, true, false, All, IsTrue, List, Option, length, sym, drop, ◌∙◌, ap, refl, subst, arith}
-use Rattle.std.{proofs.lemmas.List.drop_at, specs.Prelude.IsSome}
-use Rattle.echo_filed.specs.Filed.{Filed}
-use Rattle.disk_io.{specs.{Disk.{DiskState, Files, IsIn, bytes_in}, Runs.OneStepOn, Synced.IsOnDisk}, proofs.Moments.left_now}
-use Rattle.base_log.specs.{AtRest.IsStaged, Names.keys_of, Names.log_of, Names.messages_of, Standing.BaseBytes, Standing.IsEnded, Standing.Represents, Standing.base_at}
-use Rattle.base_log.specs.declared.log.{End.End, CommitRecord.CommitRecord}
-use Rattle.base_log.proofs.{Paths.keys_in, Paths.log_in, Paths.messages_in, Same.AreThere-same, Same.RecordsBase-same}
-use Rattle.base_folder_store.specs.{Ahead.AreParts, Held.HoldsBase, Opened.and_waiting, Opened.held_by, Opened.path_of, State.IsCached, State.state_of, State.where_so, declared.folder.Folder.Folder, declared.read_ahead.Buffers.Buffers}
-use Rattle.base_store.specs.{Index.IsIndexOf, Store.StoreState, declared.index.Index.Index}
-use Rattle.disk_atomic.{specs.Changes.{ChangesOnly, DifferAt}, proofs.Changes.wider}
-use Rattle.station.specs.Beneath.{AreSettledByOwn, HoldsAsBefore, IsUsedAt}
+use Rattle.{std.{proofs.lemmas.List.drop_at, specs.Prelude.IsSome}, echo_filed.specs.Filed.Filed, disk_io.specs.Disk.{DiskState, Files, IsIn, bytes_in}}
+use Rattle.{disk_io.{specs.{Runs.OneStepOn, Synced.IsOnDisk}, proofs.Moments.left_now}, base_log.specs.{AtRest.IsStaged, Names.{keys_of, log_of, messages_of}}}
+use Rattle.base_log.specs.{Standing.{BaseBytes, IsEnded, Represents, base_at}, declared.log.{End.End, CommitRecord.CommitRecord}}
+use Rattle.{base_log.proofs.{Paths.{keys_in, log_in, messages_in}, Same.{AreThere-same, RecordsBase-same}}, base_folder_store.specs.Ahead.AreParts}
+use Rattle.base_folder_store.specs.{Held.HoldsBase, Opened.{and_waiting, held_by, path_of}, State.{IsCached, state_of, where_so}, declared.folder.Folder.Folder}
+use Rattle.{base_folder_store.specs.declared.read_ahead.Buffers.Buffers, base_store.specs.{Index.IsIndexOf, Store.StoreState, declared.index.Index.Index}}
+use Rattle.{disk_atomic.{specs.Changes.{ChangesOnly, DifferAt}, proofs.Changes.wider}, station.specs.Beneath.{AreSettledByOwn, HoldsAsBefore, IsUsedAt}}
 
 -- states with the same files in the folder end alike
 ended_same : (path : List ℕ) (bodies : List (List ℕ)) (a c : Files) → ((m : List ℕ) → IsIn path m → c m ≡ a m) → IsEnded path bodies a → IsEnded path bodies c
@@ -19,7 +16,6 @@ ended_same path bodies a c same h6 = grind (arith, log_in, messages_in, keys_in)
 represented_same : (path : List ℕ) (base : BaseBytes) (a c : Files) → ((m : List ℕ) → IsIn path m → c m ≡ a m) → Represents path base a → Represents path base c
 represented_same path base a c same was = grind (arith, messages_in, keys_in, log_in, ended_same, AreThere-same, RecordsBase-same)
 
--- the paths outside the folder
 abbrev Outside : List ℕ → List ℕ → Type 0
 Outside path m = IsIn path m → ⊥
 

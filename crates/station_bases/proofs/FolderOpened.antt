@@ -1,14 +1,9 @@
 -- A folder opened after a look at the disk.
-use Rattle.std.proofs.Common.{◌≡◌, ℕ, Bool, List, subst, sym, arith}
-use Rattle.echo_addr.specs.declared.address.Address.{Address}
-use Rattle.base_file.specs.Base.{Base}
+use Rattle.{std.proofs.Common.{◌≡◌, ℕ, Bool, List, subst, sym, arith}, echo_addr.specs.declared.address.Address.Address, base_file.specs.Base.Base}
 use Rattle.disk_io.{specs.{Disk.{DiskState, Files}, Runs.ChangesNothing}, proofs.Moments.nothing_twice}
-use Rattle.base_log.proofs.{Keeping.outside_quiet, Keeping.outside_twice, Quiet.seen_quiet as seen_same}
-use Rattle.base_folder.specs.{Ours.IsLeftAlone, Ours.IsNotOurs, Unopened.OpensOnly, Wrong.IsSound, declared.open_error.OpenError.OpenError}
-use Rattle.base_folder.proofs.Openings.{opened_run_since}
-use Rattle.station_bases.specs.Opening.{IsNotOpened}
-use Rattle.cmd_status.specs.declared.fault.Fault.{Fault}
-use Rattle.base_folder_store.specs.Held.{RepresentsBase}
+use Rattle.{base_log.proofs.{Keeping.{outside_quiet, outside_twice}, Quiet.seen_quiet as seen_same}, base_folder.specs.Ours.{IsLeftAlone, IsNotOurs}}
+use Rattle.base_folder.{specs.{Unopened.OpensOnly, Wrong.IsSound, declared.open_error.OpenError.OpenError}, proofs.Openings.opened_run_since}
+use Rattle.{station_bases.specs.Opening.IsNotOpened, cmd_status.specs.declared.fault.Fault.Fault, base_folder_store.specs.Held.RepresentsBase}
 
 pub quiet_represented : (keyed : ℕ → ℕ → List ℕ → ℕ) (path : List ℕ) (base : Base) (d e : DiskState) → ChangesNothing d e → RepresentsBase keyed path base d.seen → RepresentsBase keyed path base e.seen
 quiet_represented keyed path base d e quiet represented = subst (λ (f : Files). RepresentsBase keyed path base f) (sym (seen_same d e quiet)) represented

@@ -1,18 +1,14 @@
 -- The disk of a base file after its use for other files, and the staging paths.
 use Rattle.std.proofs.Common.{◌≡◌, ◌≢◌, ◌↔◌, ◌++◌, ℕ, Bool, true, false, IsTrue, List, Option, length, drop, inr, sym, subst, ◌∙◌, ap, refl, arith}
-use Rattle.std.proofs.lemmas.List.{drop_at}
-use Rattle.base_file.specs.Base.{Base}
-use Rattle.disk_io.{specs.Disk.DiskState, proofs.Moments.left_now}
-use Rattle.disk_atomic.{specs.Changes.ChangesOnly, proofs.Changes.wider}
-use Rattle.cmd_status.specs.Inputs.{IsBaseGiven}
-use Rattle.station.specs.Beneath.{AreSettledByOwn, HoldsAsBefore, IsUsedAt}
-use Rattle.station_bases.{specs.{InFile.{IsInFile, IsOfFile, file_state}, declared.held.Held.Held}, proofs.Reach.{held_seen, reach_seen}}
+use Rattle.{std.proofs.lemmas.List.drop_at, base_file.specs.Base.Base, disk_io.{specs.Disk.DiskState, proofs.Moments.left_now}}
+use Rattle.{disk_atomic.{specs.Changes.ChangesOnly, proofs.Changes.wider}, cmd_status.specs.Inputs.IsBaseGiven}
+use Rattle.{station.specs.Beneath.{AreSettledByOwn, HoldsAsBefore, IsUsedAt}, station_bases.specs.InFile.{IsInFile, IsOfFile, file_state}}
+use Rattle.station_bases.{specs.declared.held.Held.Held, proofs.Reach.{held_seen, reach_seen}}
 
 module _ {S T : Type 0} (path own : List ℕ) (held : Held S T) (place : ℕ) (unread : Bool) where
   pub settled : (d : DiskState) → AreSettledByOwn (file_state d path own held place unread)
   settled d base before after same represented = subst (λ (f : Option (List ℕ)). IsBaseGiven f base.messages base.cursor) (sym (same path (inr refl))) represented
 
-  -- the paths that do not belong to the file
   abbrev Others : List ℕ → Type 0
   Others m = IsOfFile path own m → ⊥
 

@@ -1,7 +1,6 @@
 -- The answer of loading the bytes of a base.
-use Rattle.std.proofs.Common.{◌≡◌, ◌≢◌, ◌<◌, ◌≤◌, ◌-◌, ◌^◌, ℕ, [], ap, Result, Ok, Err, arith, ⊎_elim}
-use Rattle.disk_io.specs.Device.{Failed}
-use Rattle.base_file.{specs.{Base.Base, BaseFile.Loaded, Loading.{AnswersLoad, CountsLoad}, declared.fault.BaseFault.BaseFault}, proofs.OneBase.ok_no_err}
+use Rattle.{std.proofs.Common.{◌≡◌, ◌≢◌, ◌<◌, ◌≤◌, ◌-◌, ◌^◌, ℕ, [], ap, Result, Ok, Err, arith, ⊎_elim}, disk_io.specs.Device.Failed, base_file.specs.Base.Base}
+use Rattle.base_file.{specs.{BaseFile.Loaded, Loading.{AnswersLoad, CountsLoad}, declared.fault.BaseFault.BaseFault}, proofs.OneBase.ok_no_err}
 use Rattle.base_file.specs.declared.fault.BaseFault.TheVariants as fault
 
 abbrev pub base_in : Result Loaded BaseFault → Base

@@ -1,22 +1,18 @@
 -- A base file opened as a store.
-use Rattle.std.proofs.Common.{◌≡◌, ◌≤◌, ◌⊎◌, ◌∙◌, inl, inr, ⊎_elim, ℕ, Bool, false, List, Option, None, Some, Result, Ok, Err, ap, arith, refl, subst, sym}
-use Rattle.std.specs.Prelude.{All, ◌≢◌, IfErr, IsSome}
-use Rattle.base_file.{specs.Base.Base, proofs.Loading.base_is}
-use Rattle.echo_filed.specs.Filed.{Filed}
-use Rattle.disk_io.{specs.{Disk.{DiskState, Files, Honestly, bytes_in}, Runs.ChangesNothing}, proofs.Moments.weaker_run}
-use Rattle.echo_links.specs.Links.{LinkFile}
-use Rattle.cmd_status.specs.{Inputs.IsBaseGiven, declared.fault.Fault.Fault}
-use Rattle.station.proofs.Failures.{fails_wider, no_links_wider, not_locked, nothing_done}
-use Rattle.station.specs.{Faults.FailsAt, Links.AreLinks, Opening.IsNotOpened, Opening.IsOpenFor, Opening.IsOpened, Place.IsOfPlace, Place.KeepsElsewhere, Place.RepresentsOrWasLeft}
-use Rattle.station_bases.specs.{InFile.IsHeld, InFile.IsReadAs, InFile.IsWithinReach, InFile.RepresentsInFile, InFile.file_state, declared.held.Held.Held, declared.held.Held.TheVariants.Whole}
-use Rattle.station_bases.{proofs.Loaded.base_in, specs.Reading.{IsFileShut, IsSettled, IsShutFor, IsUnreadFor, file_place}}
+use Rattle.std.proofs.Common.{◌≡◌, ◌≤◌, ◌⊎◌, ◌∙◌, inl, inr, ⊎_elim, ℕ, Bool, false, List, Option, None, Some, Result, Ok, Err, ap, arith, subst, sym}
+use Rattle.{std.specs.Prelude.{All, ◌≢◌, IfErr, IsSome}, base_file.{specs.Base.Base, proofs.Loading.base_is}, echo_filed.specs.Filed.Filed}
+use Rattle.{disk_io.{specs.{Disk.{DiskState, Files, Honestly, bytes_in}, Runs.ChangesNothing}, proofs.Moments.weaker_run}, echo_links.specs.Links.LinkFile}
+use Rattle.{cmd_status.specs.{Inputs.IsBaseGiven, declared.fault.Fault.Fault}, base_store.proofs.Runs.quiet_disk}
+use Rattle.station.{proofs.Failures.{fails_wider, no_links_wider, not_locked}, specs.{Faults.FailsAt, Links.AreLinks}}
+use Rattle.station.specs.{Opening.{IsNotOpened, IsOpenFor, IsOpened}, Place.{IsOfPlace, KeepsElsewhere, RepresentsOrWasLeft}}
+use Rattle.station_bases.specs.{InFile.{IsHeld, IsReadAs, IsWithinReach, RepresentsInFile, file_state}, declared.held.Held.Held}
+use Rattle.station_bases.{specs.Reading.{IsFileShut, IsSettled, IsShutFor, IsUnreadFor, file_place}, proofs.Loaded.base_in}
 
 -- the base in the bytes of an existing file
 pub given_by : (f : Option (List ℕ)) (messages : List Filed) (cursor : ℕ) → IsSome f → IsBaseGiven (Some (bytes_in f)) messages cursor → IsBaseGiven f messages cursor
 given_by (Some bytes) messages cursor some given = given
 given_by None messages cursor some given = grind arith
 
--- a file has one base
 one_given : (f : Option (List ℕ)) (a b : Base) → IsBaseGiven f a.messages a.cursor → IsBaseGiven f b.messages b.cursor → a ≡ b
 one_given None a b one other = (λ i. record { messages = one.0 i; cursor = one.1 i }) ∙ sym (λ i. record { messages = other.0 i; cursor = other.1 i })
 one_given (Some bytes) a b one other =
@@ -26,22 +22,6 @@ one_given (Some bytes) a b one other =
 
 pub read_only : {S T : Type 0} (files : Files) (disk : DiskState) (path : List ℕ) (held : Held S T) → IsReadAs files disk path held → (b : Base) → RepresentsInFile path b files → IsHeld disk path held b
 read_only files disk path held read b represented = subst (λ (x : Base). IsHeld disk path held x) (one_given (files path) read.base b read.represented represented) read.is
-
--- the same after a step that changed nothing
-pub read_since : {S T : Type 0} (d0 d1 disk : DiskState) (path : List ℕ) (held : Held S T) → ChangesNothing d0 d1 → IsReadAs d1.seen disk path held → IsReadAs d0.seen disk path held
-read_since d0 d1 disk path held quiet read = record {
-  base = read.base;
-  represented = subst (λ (f : Option (List ℕ)). IsBaseGiven f read.base.messages read.base.cursor) (quiet.seen path) read.represented;
-  is = read.is;
-}
-
--- a base in memory
-pub read_whole : {S T : Type 0} (d0 d1 disk : DiskState) (path : List ℕ) (base : Base) → ChangesNothing d0 d1 → RepresentsInFile path base d1.seen → IsReadAs {S = S} {T = T} d0.seen disk path (Whole base)
-read_whole d0 d1 disk path base quiet represented = record {
-  base = base;
-  represented = subst (λ (f : Option (List ℕ)). IsBaseGiven f base.messages base.cursor) (quiet.seen path) represented;
-  is = refl;
-}
 
 quiet_elsewhere : (path : List ℕ) (d0 d1 : DiskState) → ChangesNothing d0 d1 → KeepsElsewhere (file_place path) d0 d1
 quiet_elsewhere path d0 d1 quiet = grind arith
@@ -66,7 +46,7 @@ file_shut_wider links path P F d fault more shut =
 -- a lock was not taken
 pub locked_out : {T : Type 0} (links path : List ℕ) (P Q F : Type 0) (d : DiskState) (result : Result T Fault) → (P → F) → (Q → F) → IfErr result (λ fault. FailsAt links P fault ⊎ FailsAt path Q fault) → IfErr result (IsShutFor links path F d d)
 locked_out links path P Q F d (Ok done) first second fails = tt
-locked_out links path P Q F d (Err fault) first second fails = (nothing_done d, ⊎_elim (λ none. inl none) (λ at. inr (inl at)) (not_locked d links path P Q F fault first second fails))
+locked_out links path P Q F d (Err fault) first second fails = (quiet_disk d, ⊎_elim (λ none. inl none) (λ at. inr (inl at)) (not_locked d links path P Q F fault first second fails))
 
 pub is_not_opened : (links path : List ℕ) (F : Type 0) (d0 d1 : DiskState) (fault : Fault) → ChangesNothing d0 d1 → Honestly d1 (IsFileShut links path F d0 fault)
     → IsNotOpened (file_place path) (IsShutFor links path F d0 d1) d0 d1 fault

@@ -1,10 +1,9 @@
 -- A base file that is unchanged.
-use Rattle.std.{proofs.Common.{◌≡◌, ◌≤◌, ◌++◌, ℕ, List, length, take, drop, sym, ap, subst, ◌∙◌, Option, append_assoc, arith}, proofs.lemmas.List.take-append-drop, specs.Prelude.IsSome}
-use Rattle.disk_io.specs.{Disk.DiskState, Disk.bytes_in, Runs.ChangesNothing}
-use Rattle.base_file.specs.Base.{Base}
+use Rattle.std.proofs.{Common.{◌≡◌, ◌≤◌, ◌++◌, ℕ, List, length, take, drop, sym, ap, subst, ◌∙◌, Option, append_assoc, arith}, lemmas.List.take-append-drop}
+use Rattle.{std.specs.Prelude.IsSome, disk_io.specs.{Disk.{DiskState, bytes_in}, Runs.ChangesNothing}, base_file.specs.Base.Base}
 use Rattle.base_folder_store.{specs.Ahead.IsPartOf, proofs.Ahead.part_grows}
-use Rattle.station_bases.specs.{Entries.AreIndexed, Entries.CanFetch, Entries.CanLookUp, Entries.HoldEntries, Entries.IsWithinFile, Entries.SameButAdded, Entries.message_bytes, InFile.IsHeld, InFile.IsWithinReach, declared.held.Held.Held}
-use Rattle.station_bases.specs.declared.{held.Held.TheVariants.Apart, held.Held.TheVariants.Whole, entries.Entries.Entries}
+use Rattle.station_bases.specs.Entries.{AreIndexed, CanFetch, CanLookUp, HoldEntries, IsWithinFile, SameButAdded, message_bytes}
+use Rattle.station_bases.specs.{InFile.{IsHeld, IsWithinReach}, declared.{held.Held.{Held, TheVariants.{Apart, Whole}}, entries.Entries.Entries}}
 
 module _ (d0 d1 : DiskState) (path : List ℕ) (quiet : ChangesNothing d0 d1) where
   pub same_file : bytes_in (d1.seen path) ≡ bytes_in (d0.seen path)

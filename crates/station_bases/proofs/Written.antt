@@ -1,9 +1,7 @@
 -- A base that replaced its file.
-use Rattle.std.proofs.Common.{◌≡◌, ℕ, Bool, false, List, Some, subst, sym, arith}
-use Rattle.base_file.specs.Base.{Base}
-use Rattle.disk_io.{specs.{Disk.{DiskState, Files, Honestly}, Runs.{ChangesNothing, LeavesOnly, OneStepOn}}, proofs.Moments.weaker_run}
-use Rattle.disk_atomic.specs.{Changes.ChangesOnly, Changes.HasOnDisk, Replacing.Replaces, StagingPaths.staging_path}
-use Rattle.cmd_status.specs.Inputs.{IsBaseGiven}
+use Rattle.{std.proofs.Common.{◌≡◌, ℕ, Bool, false, List, Some, subst, sym, arith}, base_file.specs.Base.Base, disk_io.specs.Disk.{DiskState, Files, Honestly}}
+use Rattle.{disk_io.{specs.Runs.{ChangesNothing, LeavesOnly, OneStepOn}, proofs.Moments.weaker_run}, disk_atomic.specs.Changes.{ChangesOnly, HasOnDisk}}
+use Rattle.{disk_atomic.specs.{Replacing.Replaces, StagingPaths.staging_path}, cmd_status.specs.Inputs.IsBaseGiven}
 use Rattle.base_store.specs.Store.{CommitsNothing, IsSameStore, KeepsOthers, LeavesEither, MayCommit, StoreState}
 use Rattle.station_bases.specs.{InFile.{IsHeld, IsInFile, IsOfFile, PutsBase, RepresentsInFile, file_state}, declared.held.Held.Held}
 

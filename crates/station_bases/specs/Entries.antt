@@ -1,13 +1,11 @@
 -- A base file as entries: the place where each message begins, and a digest of its key.
 use Rattle.std.specs.Prelude.{◌≡◌, ◌≤◌, ◌⊎◌, ◌<◌, ◌+◌, ◌*◌, ◌/◌, ◌^◌, ℕ, ⊤, false, true, nat_lt, List, [], ◌∷◌, ◌++◌, length, take, drop, IsErrOf, IsSome, Result}
-use Rattle.std.specs.List.{flat_map}
-use Rattle.disk_io.specs.Disk.{DiskState, Honestly, bytes_in}
-use Rattle.echo_filed.specs.{Filed.Filed, Stored.is_short, Stored.is_short_enough, Stored.stored_as, Stored.stored_bytes, declared.stored.Version.TheVariants.Second}
-use Rattle.base_file.specs.{Base.Base, BaseFile.head_bytes, BaseFile.is_countable, BaseFile.stored_from}
-use Rattle.base_folder_store.specs.Ahead.{IsPartOf}
+use Rattle.{std.specs.List.flat_map, disk_io.specs.Disk.{DiskState, Honestly, bytes_in}, echo_filed.specs.Filed.Filed}
+use Rattle.echo_filed.specs.{Stored.{is_short, is_short_enough, stored_as, stored_bytes}, declared.stored.Version.TheVariants.Second}
+use Rattle.{base_file.specs.{Base.Base, BaseFile.{head_bytes, is_countable, stored_from}}, base_folder_store.specs.Ahead.IsPartOf}
 use Rattle.base_store.specs.{Chains.AreChains, Keys.FolderRepresents, Sip.sip_digest, declared.store_error.StoreError.StoreError}
-use Rattle.base_store.specs.declared.store_error.StoreError.TheVariants as error
 use Rattle.station_bases.specs.declared.entries.Entries.{Entries}
+use Rattle.base_store.specs.declared.store_error.StoreError.TheVariants as error
 
 -- The digest in the entries.
 abbrev pub entry_digest : Entries → List ℕ → ℕ

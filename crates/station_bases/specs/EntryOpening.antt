@@ -1,11 +1,9 @@
 -- The messages of a base file are judged one after another, and get their entries.
-use Rattle.std.specs.Prelude.{◌≡◌, ◌≤◌, ℕ, ◌+◌, Bool, false, List, [], ◌++◌, length, map, take, drop}
-use Rattle.disk_io.specs.Disk.{DiskState, Honestly, bytes_in}
-use Rattle.echo_filed.specs.{Stored.Stored, Stored.message_in, declared.stored.Version.TheVariants.Second, declared.key.Key.Key}
-use Rattle.base_file.specs.{BaseFile.Begins, Pieces.IsJudged, declared.base.loading.Head.Head}
+use Rattle.{std.specs.Prelude.{◌≡◌, ◌≤◌, ℕ, ◌+◌, Bool, false, List, [], ◌++◌, length, map, take, drop}, disk_io.specs.Disk.{DiskState, Honestly, bytes_in}}
+use Rattle.{echo_filed.specs.{Stored.{Stored, message_in}, declared.{stored.Version.TheVariants.Second, key.Key.Key}}, base_file.specs.BaseFile.Begins}
+use Rattle.{base_file.specs.{Pieces.IsJudged, declared.base.loading.Head.Head}, base_store.specs.Keys.keys_from}
+use Rattle.station_bases.specs.{Entries.{AreIndexed, KeepForms, entry_digest}, declared.{entry_opening.Piece.Piece, entries.Entries.Entries}}
 use Rattle.base_file.specs.declared.piece.Next.TheVariants as next
-use Rattle.base_store.specs.Keys.{keys_from}
-use Rattle.station_bases.specs.{Entries.AreIndexed, Entries.KeepForms, Entries.entry_digest, declared.entry_opening.Piece.Piece, declared.entries.Entries.Entries}
 
 -- The bytes of a file from a place on.
 pub record IsPartOf (file : List ℕ) (piece : Piece) : Type 0 where

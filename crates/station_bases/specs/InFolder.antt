@@ -1,13 +1,7 @@
 -- A base in a folder.
-use Rattle.std.specs.Prelude.{◌⊎◌, ℕ, Bool, List}
-use Rattle.echo_addr.specs.declared.address.Address.{Address}
-use Rattle.base_folder.specs.Ours.{IsOfOther}
-use Rattle.disk_io.specs.Disk.{DiskState, IsIn}
-use Rattle.base_folder_store.specs.Held.{RepresentsBase}
-use Rattle.station_bases.specs.Opening.{IsLockedOut, IsShut}
-use Rattle.echo_links.specs.Links.{LinkFile}
-use Rattle.station.specs.{Links.AreLinks, Place.Place}
-use Rattle.cmd_status.specs.declared.fault.Fault.{Fault}
+use Rattle.{std.specs.Prelude.{◌⊎◌, ℕ, Bool, List}, echo_addr.specs.declared.address.Address.Address, base_folder.specs.Ours.IsOfOther}
+use Rattle.{disk_io.specs.Disk.{DiskState, IsIn}, base_folder_store.specs.Held.RepresentsBase, station_bases.specs.Opening.{IsLockedOut, IsShut}}
+use Rattle.{echo_links.specs.Links.LinkFile, station.specs.{Links.AreLinks, Place.Place}, cmd_status.specs.declared.fault.Fault.Fault}
 
 -- The place of a base folder.
 abbrev pub folder_place : (ℕ → ℕ → List ℕ → ℕ) → List ℕ → Place

@@ -1,17 +1,11 @@
 -- A station with its base in a folder; its link file and its folder are locked.
-use Rattle.std.specs.Prelude.{◌≡◌, ◌⊎◌, ◌↔◌, ℕ, Bool, List}
-use Rattle.echo_addr.specs.declared.address.Address.{Address}
-use Rattle.base_file.specs.Base.{Base}
-use Rattle.base_folder.specs.{Ours.IsLeftAlone, Ours.IsNotOurs, Ours.IsOfOther, Wrong.IsSound, OpenError.IsReportedAs, declared.open_error.OpenError.OpenError}
-use Rattle.base_folder.specs.Unopened.{HasOpened, HaveRoom, IsOpenedFor}
+use Rattle.{std.specs.Prelude.{◌≡◌, ◌⊎◌, ◌↔◌, ℕ, Bool, List}, echo_addr.specs.declared.address.Address.Address, base_file.specs.Base.Base}
+use Rattle.base_folder.specs.{Ours.{IsLeftAlone, IsNotOurs, IsOfOther}, Wrong.IsSound, OpenError.IsReportedAs, declared.open_error.OpenError.OpenError}
+use Rattle.{base_folder.specs.Unopened.{HasOpened, HaveRoom, IsOpenedFor}, disk_io.specs.Disk.{DiskState, Files, Honestly, IsIn}}
+use Rattle.{disk_io.specs.Runs.{ChangesNothing, LeavesOnly}, base_log.specs.Moments.KeepsOutside}
+use Rattle.{base_folder_store.specs.{Held.{RepresentsBase, RepresentsBaseOrWasLeft}, declared.folder.Folder.Folder}, echo_links.specs.Links.LinkFile}
+use Rattle.{station.specs.{Faults.FailsAt, Links.{AreLinks, NoLinks}}, cmd_status.specs.declared.fault.Fault.Fault, base_store.specs.Store.StoreState}
 use Rattle.base_folder.specs.declared.open_error.OpenError.TheVariants as unread
-use Rattle.disk_io.specs.{Disk.DiskState, Disk.Files, Disk.Honestly, Disk.IsIn, Runs.ChangesNothing, Runs.LeavesOnly}
-use Rattle.base_log.specs.Moments.{KeepsOutside}
-use Rattle.base_folder_store.specs.{Held.RepresentsBase, Held.RepresentsBaseOrWasLeft, declared.folder.Folder.Folder}
-use Rattle.echo_links.specs.Links.{LinkFile}
-use Rattle.station.specs.{Faults.FailsAt, Links.AreLinks, Links.NoLinks}
-use Rattle.cmd_status.specs.declared.fault.Fault.{Fault}
-use Rattle.base_store.specs.Store.{StoreState}
 
 -- The folder is not opened for the system.
 pub record IsNotOpened (own : Address) (strange : Bool) (base path : List ℕ) (failed : Type 0) (old new : DiskState) (fault : Fault) : Type 0 where

@@ -1,8 +1,6 @@
 //! Messages are added behind a base file, and all are marked as scanned. Nothing is written.
 ghost use Rattle.std.specs.Prelude.{◌≡◌, ◌≤◌, ◌<◌, ◌+◌, ◌-◌, ◌/◌, ◌^◌, ◌++◌, ◌||◌, ℕ, false, List, length, IfErr, IfOk, IsErrOf, OnErr, OnOk};
-ghost use Rattle.echo_filed.specs.Filed.{key_of};
-ghost use Rattle.base_file.specs.Base.{Base, is_known};
-ghost use Rattle.base_store.specs.{Keys.digested, Store.with_message};
+ghost use Rattle.{echo_filed.specs.Filed.key_of, base_file.specs.Base.{Base, is_known}, base_store.specs.{Keys.digested, Store.with_message}};
 ghost use Rattle.station_bases.specs.Entries.{AreIndexed, HasRoomFor, HoldEntries, IsUnsaved, SameButAdded, entry_digest};
 
 use crate::entries::{Entries, HEAD};

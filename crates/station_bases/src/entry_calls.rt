@@ -1,10 +1,7 @@
 //! The calls of a store on a base file with its messages left in the file.
 ghost use Rattle.std.specs.{Prelude.{◌≡◌, ◌<◌, ◌≤◌, ◌/◌, ℕ, List, false, length, slice_get, option_copied, IsErrOf, OnErr, OnOk}, List.list_any};
-ghost use Rattle.disk_io.specs.{Disk.Honestly, Disk.bytes_in, Runs.ChangesNothing};
-ghost use Rattle.echo_filed.specs.Filed.{has_id, key_of};
-ghost use Rattle.base_file.specs.Base.{Base, is_known};
-ghost use Rattle.base_store.specs.Store.{all_scanned, with_message};
-ghost use Rattle.base_folder_store.specs.{Ahead.IsPartOf, Answers.Answers, Answers.HasReadCause};
+ghost use Rattle.{disk_io.specs.{Disk.{Honestly, bytes_in}, Runs.ChangesNothing}, echo_filed.specs.Filed.{has_id, key_of}, base_file.specs.Base.{Base, is_known}};
+ghost use Rattle.{base_store.specs.Store.{all_scanned, with_message}, base_folder_store.specs.{Ahead.IsPartOf, Answers.{Answers, HasReadCause}}};
 ghost use Rattle.station_bases.specs.Entries.{AreIndexed, CanFetch, CanLookUp, HasRoomFor, HoldEntries, SameButAdded, message_bytes};
 
 use crate::entries::Entries;

@@ -1,10 +1,8 @@
 //! A base file of version 2 is opened: its messages are judged where they are, and their entries made.
 ghost use Rattle.std.specs.Prelude.{◌≡◌, ◌≤◌, ◌<◌, ◌+◌, ◌-◌, ◌/◌, ◌++◌, ◌||◌, ◌&&◌, not, nat_lt, min, ℕ, [], List, true, false, length, drop, IfOk, IfSome, IsSome, OnErr, OnOk};
-ghost use Rattle.disk_io.specs.{Disk.Honestly, Disk.bytes_in, Runs.ChangesNothing, Runs.HasCause};
-ghost use Rattle.echo_filed.specs.{Filed.Filed, declared.stored.Version.TheVariants.Second};
-ghost use Rattle.base_file.specs.{Base.Base, Base.is_known, Pieces.BeginsWith};
-ghost use Rattle.base_folder_store.specs.Ahead.{IsPartOf as IsReadPart};
-ghost use Rattle.base_store.specs.Keys.{digested_key, entry};
+ghost use Rattle.{disk_io.specs.{Disk.{Honestly, bytes_in}, Runs.{ChangesNothing, HasCause}}, echo_filed.specs.Filed.Filed};
+ghost use Rattle.{echo_filed.specs.declared.stored.Version.TheVariants.Second, base_file.specs.{Base.{Base, is_known}, Pieces.BeginsWith}};
+ghost use Rattle.{base_folder_store.specs.Ahead.IsPartOf as IsReadPart, base_store.specs.Keys.{digested_key, entry}};
 ghost use Rattle.station_bases.specs.{Entries.{AreEntriesOf, AreIndexed, CanFetch, CanLookUp, HoldEntries, entry_digest}, InFile.RepresentsInFile};
 ghost use Rattle.station_bases.specs.EntryOpening.{AreJudged, HasJudged, IsPartOf, IsSoundIn, StaysIndexed};
 

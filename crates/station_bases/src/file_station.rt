@@ -1,8 +1,6 @@
 //! A station with its base in a file.
-ghost use Rattle.std.specs.Prelude.{◌≡◌, Some};
-ghost use Rattle.base_file.specs.Base.{Base};
-ghost use Rattle.station.specs.Links.{AreLinks};
-ghost use Rattle.station_bases.specs.{InFile.RepresentsInFile, Reading.IsShutFor, Reading.file_place};
+ghost use Rattle.{std.specs.Prelude.{◌≡◌, Some}, base_file.specs.Base.Base, station.specs.Links.AreLinks, station_bases.specs.InFile.RepresentsInFile};
+ghost use Rattle.station_bases.specs.Reading.{IsShutFor, file_place};
 
 use crate::file_store::FileStore;
 use crate::loading::{Read, read_station};

@@ -1,12 +1,9 @@
 //! A base folder opened under the locks of a station.
-ghost use Rattle.std.specs.Prelude.{◌≡◌, ◌≤◌, ◌⊎◌, ℕ, List, IfErr, IfOk, OnOk, Some};
-ghost use Rattle.base_file.specs.Base.{Base};
-ghost use Rattle.echo_addr.specs.declared.address.Address.{Address as TheAddress};
-ghost use Rattle.base_folder.specs.{Ours.IsOfOther, Unopened.HasOpened, Unopened.HaveRoom, Unopened.IsOpenedFor, Unopened.OpensOnly, Wrong.NeedsSound};
-ghost use Rattle.disk_io.specs.{Device.Failed, Disk.Honestly, Runs.ChangesNothing};
-ghost use Rattle.base_log.specs.Opening.{AreAlone};
-ghost use Rattle.base_folder_store.specs.Held.{RepresentsBase};
-ghost use Rattle.station_bases.specs.{InFolder.IsFolderShut, Opening.IsNotOpened, Opening.IsOpenStation};
+ghost use Rattle.{std.specs.Prelude.{◌≡◌, ◌≤◌, ◌⊎◌, ℕ, List, IfErr, IfOk, OnOk, Some}, base_file.specs.Base.Base};
+ghost use Rattle.{echo_addr.specs.declared.address.Address.Address as TheAddress, base_folder.specs.Ours.IsOfOther};
+ghost use Rattle.{base_folder.specs.{Unopened.{HasOpened, HaveRoom, IsOpenedFor, OpensOnly}, Wrong.NeedsSound}, disk_io.specs.{Device.Failed, Disk.Honestly}};
+ghost use Rattle.{disk_io.specs.Runs.ChangesNothing, base_log.specs.Opening.AreAlone, base_folder_store.specs.Held.RepresentsBase};
+ghost use Rattle.station_bases.specs.{InFolder.IsFolderShut, Opening.{IsNotOpened, IsOpenStation}};
 
 use crate::place::{FolderPlace, FolderProbe};
 use base_folder::open_own;

@@ -1,10 +1,8 @@
 -- Why packets were not written.
-use Rattle.std.{proofs.Common.{◌≡◌, ◌≤◌, ℕ, arith}, specs.Prelude.{Err, IsErrOf}}
-use Rattle.disk_atomic.specs.declared.placing_error.PlacingError.TheVariants as placing
-use Rattle.base_store.specs.Store.{StoreState}
-use Rattle.station.proofs.Failures.{failed_wider}
-use Rattle.station_scan.specs.{Publishing.HasPublishCause, Writing.HasStopCause, Writing.publish_stop, declared.passing.PassStop.PassStop, declared.passing.PassStop.TheVariants.Placing}
+use Rattle.{std.{proofs.Common.{◌≡◌, ◌≤◌, ℕ, arith}, specs.Prelude.{Err, IsErrOf}}, base_store.specs.Store.StoreState, station.proofs.Failures.failed_wider}
+use Rattle.station_scan.specs.{Publishing.HasPublishCause, Writing.{HasStopCause, publish_stop}, declared.passing.PassStop.{PassStop, TheVariants.Placing}}
 use Rattle.station_scan.specs.declared.publish_error.PublishError.{PublishError, TheVariants.Packets}
+use Rattle.disk_atomic.specs.declared.placing_error.PlacingError.TheVariants as placing
 
 -- the staging files were removed
 module _ {S T : Type 0} (state : S → StoreState) (s0 s1 s2 : StoreState) (f0 f1 f2 : ℕ) (run : s2.disk.is_honest → s1.disk.is_honest) where

@@ -1,18 +1,16 @@
 -- The packets of a pass as the files of a scan.
 use Rattle.std.proofs.Common.{◌≡◌, inl, inr, ⊎_elim, ◌∙◌, ℕ, List, [], ◌∷◌, map, refl, sym, subst, ap, append_assoc, arith}
-use Rattle.std.{proofs.lemmas.List.Elements.{All-contains, All-map}, specs.Prelude.{All, Contains, None}}
-use Rattle.base_file.specs.Base.{Base}
-use Rattle.disk_io.specs.Disk.{DiskState, Files}
-use Rattle.disk_atomic.specs.{ListStaged.IsNameByte, Naming.HasItsPath, Naming.IsWholeAtEither, Outgoing.IsAtStaging, Outgoing.IsFilled, Outgoing.IsFree, Outgoing.SendsBytes, declared.outgoing.Outgoing.Outgoing}
-use Rattle.disk_atomic.proofs.Packets.{nobody}
-use Rattle.echo_addr.specs.declared.address.Address.{Address}
-use Rattle.model_steps.specs.{PacketFiles.PacketFile, Scanning.header_to}
-use Rattle.cmd_store.specs.PacketLines.{file_sent, packet_name}
-use Rattle.echo_toss.{specs.{Counts.{bytes_for, link_set}, Exports.{OutgoingMessage as Sent, nowhere, packet_out}}, proofs.Counts.scanned_to}
+use Rattle.{std.{proofs.lemmas.List.Elements.{All-contains, All-map}, specs.Prelude.{All, Contains, None}}, base_file.specs.Base.Base}
+use Rattle.{disk_io.specs.Disk.{DiskState, Files}, disk_atomic.specs.{ListStaged.IsNameByte, Naming.{HasItsPath, IsWholeAtEither}}}
+use Rattle.disk_atomic.{specs.{Outgoing.{IsAtStaging, IsFilled, IsFree, SendsBytes}, declared.outgoing.Outgoing.Outgoing}, proofs.Packets.nobody}
+use Rattle.{echo_addr.specs.declared.address.Address.Address, model_steps.specs.{PacketFiles.PacketFile, Scanning.header_to}}
+use Rattle.{cmd_store.specs.PacketLines.{file_sent, packet_name}, echo_toss.specs.Counts.{bytes_for, link_set}}
+use Rattle.echo_toss.{specs.Exports.{OutgoingMessage as Sent, nowhere, packet_out}, proofs.Counts.scanned_to}
 use Rattle.station_scan.specs.Sending.{AreRoutes, HasBytes, IsAtItsPath, IsFreeAt, IsOfPacket, IsOffOwn, IsStagingGone, IsStagingOfPacket, IsStagingOn, IsWhole, IsWholeAlone, file_paths, for_address}
 use Rattle.station_scan.specs.Passing.{AreFor, FitTo, IsFront, IsGrowingTo, IsRouted, IsStagingTo, IsTakenFor, all_sent, is_made, links_to}
-use Rattle.station_scan.specs.{Fitting.AreFit, Fitting.AreTaken, Publishing.IsFreeIn, Publishing.IsGoingAt, Publishing.IsOnDisk, Publishing.IsStagingOnDisk, Publishing.ended_in, Publishing.no_files, Scanning.packets_in, declared.sending.Sending.Sending}
-use Rattle.station_scan.proofs.{Lists.all_of_map, Lists.contains_map, Lists.kept_passes, Lists.map_twice, Routes.address_for, Routes.all_for, Routes.made_wider, Routes.plain_name}
+use Rattle.station_scan.specs.{Fitting.{AreFit, AreTaken}, Publishing.{IsFreeIn, IsGoingAt, IsOnDisk, IsStagingOnDisk, ended_in, no_files}, Scanning.packets_in}
+use Rattle.station_scan.{specs.declared.sending.Sending.Sending, proofs.Lists.{all_of_map, contains_map, kept_passes, map_twice}}
+use Rattle.station_scan.proofs.Routes.{address_for, all_for, made_wider, plain_name}
 
 -- the bytes of each packet
 abbrev pub content_of : Sending → Base → Address → List ℕ
@@ -62,7 +60,6 @@ module _ (to : Sending) (planned : AreRoutes to) (base : Base) where
 -- ---- packets of all messages
 
 module _ (to : Sending) (planned : AreRoutes to) (base : Base) (packets : List Outgoing) (for : AreFor to (is_made (all_sent to base)) packets) where
-  -- a packet as a file
   abbrev sends : Outgoing → PacketFile
   sends p = file_to to base p.to
 

@@ -1,9 +1,8 @@
 -- Leftover packets are found one by one.
-use Rattle.std.proofs.Common.{◌≡◌, ⊎_elim, ◌∙◌, ◌<◌, ◌≤◌, ℕ, List, [], ◌∷◌, ◌++◌, ap, arith, get_or, length, length-append, subst, sym}
-use Rattle.std.proofs.{lemmas.Bool.cases_lt, lemmas.List.get_or_append_left, Math.Seq.get_or-append_seam, lemmas.List.Elements.All-append, lemmas.List.Elements.Contains-append_left}
-use Rattle.std.specs.Prelude.{All, AllPairs, Contains, IsSome, Option}
-use Rattle.disk_atomic.specs.{StagingPaths.staging_path, declared.listing.StagedPacket.StagedPacket}
-use Rattle.disk_io.specs.Disk.{Files}
+use Rattle.std.proofs.{Common.{◌≡◌, ⊎_elim, ◌∙◌, ◌<◌, ◌≤◌, ℕ, List, [], ◌∷◌, ◌++◌, ap, arith, get_or, length, length-append, subst, sym}, lemmas.Bool.cases_lt}
+use Rattle.std.proofs.{lemmas.List.{get_or_append_left, Elements.{All-append, Contains-append_left}}, Math.Seq.get_or-append_seam}
+use Rattle.{std.specs.Prelude.{All, AllPairs, Contains, IsSome, Option}, disk_atomic.specs.StagingPaths.staging_path}
+use Rattle.{disk_atomic.specs.declared.listing.StagedPacket.StagedPacket, disk_io.specs.Disk.Files}
 use Rattle.station_scan.specs.{Left.{Adds, AreFound, HaveOtherLeft, IsAmong, IsStagingThere, IsFound, IsFoundWhere}, declared.finding.LeftPaths.LeftPaths}
 
 -- one more behind those that are related to it
@@ -21,7 +20,6 @@ pairs_more {X} R xs y pairs all = λ k j z kj hi.
     subst (λ (x : X). R x (get_or all_xs j z)) (sym (get_or_append_left xs (y ∷ []) z k first)) (subst (λ (x : X). R (get_or xs k z) x) last (all k z first)))
     (cases_lt j (length xs))
 
--- the list of one
 one_all : {X : Type 0} (P : X → Type 0) (x : X) → P x → All P (x ∷ [])
 one_all {X} P x is = λ k d lt. let first : k ≡ 0 = omega arith in subst (λ (n : ℕ). P (get_or (x ∷ []) n d)) (sym first) is
 

@@ -1,21 +1,18 @@
 -- Leftover packets are finished.
 use Rattle.std.proofs.Common.{◌≡◌, ◌≢◌, inl, inr, ⊎_elim, ◌∙◌, ◌<◌, ℕ, List, [], ◌++◌, ap, arith, get_or, length, map, refl, subst, sym}
-use Rattle.std.proofs.lemmas.{Result.on_ok_weaker, Bool.cases_lt, List.get_or-map, List.length-map, List.Elements.All-contains, List.Elements.Contains-get_or}
-use Rattle.std.specs.Prelude.{All, Contains, Err, IsSome, None, Ok, OnOk, Result}
-use Rattle.disk_io.{specs.{Disk.{DiskState, Files, IsIn}, Runs.{ChangesNothing, LeavesOnly, OneStepOn}}, proofs.Moments.{no_call, then_nothing, weaker_run}}
+use Rattle.std.proofs.lemmas.{Result.on_ok_weaker, Bool.cases_lt, List.{get_or-map, length-map, Elements.{All-contains, Contains-get_or}}}
+use Rattle.{std.specs.Prelude.{All, Contains, Err, IsSome, None, Ok, OnOk, Result}, disk_io.specs.Disk.{DiskState, Files, IsIn}}
+use Rattle.disk_io.{specs.Runs.{ChangesNothing, LeavesOnly, OneStepOn}, proofs.Moments.{then_nothing, weaker_run}}
 use Rattle.disk_atomic.specs.{Finishing.{AreAway, AreLeftIn, FinishesEach, IsLeftIn, IsOfLeft, IsOver, IsThere}, declared.listing.StagedPacket.StagedPacket}
-use Rattle.disk_atomic.specs.{Changes.ChangesOnly, declared.finishing.Left.Left, declared.placing_error.PlacingError.PlacingError, ListStaged.AreListed, ListStaged.IsNumbered}
-use Rattle.disk_atomic.proofs.{Changes.only_nothing, Changes.then_only, Ended.quiet_then, Whole.on_ok_any as on_ok_so}
-use Rattle.station.proofs.StagingPaths.{staging_other}
+use Rattle.disk_atomic.specs.{Changes.ChangesOnly, declared.{finishing.Left.Left, placing_error.PlacingError.PlacingError}, ListStaged.{AreListed, IsNumbered}}
+use Rattle.{disk_atomic.proofs.{Changes.{only_nothing, then_only}, Ended.quiet_then, Whole.on_ok_any as on_ok_so}, station.proofs.StagingPaths.staging_other}
 use Rattle.station_scan.specs.Left.{AreAllLeft, AreFound, AreFreeLeft, AreSameLeft, EndsLeft, EndsThese, IsStagingThere, IsFound, IsFreeFound, IsFoundWhere, IsEndedAt, IsLeftOf, IsSameLeft, IsOfNameOff, IsOfPaths, IsToFind}
-use Rattle.station_scan.specs.{Sending.IsOffOwn, declared.finding.LeftPaths.LeftPaths, declared.sending.TwoPaths.TwoPaths}
+use Rattle.station_scan.specs.{Sending.IsOffOwn, declared.{finding.LeftPaths.LeftPaths, sending.TwoPaths.TwoPaths}}
 use Rattle.station_scan.proofs.Names.{four_apart, name_staging_in, name_in}
 
--- the packet with these paths
 as_left : LeftPaths → Left
 as_left w = record { path = record { ref_ptr = (0, 0); now = w.two.path }; staging = record { ref_ptr = (0, 0); now = w.two.staging }; before = w.before }
 
--- nothing that was left
 no_paths : LeftPaths
 no_paths = record { two = record { path = []; staging = [] }; before = 0 }
 
@@ -168,10 +165,6 @@ over_before cursor d0 d1 d2 l same is = grind arith
 pub on_ok_over : {T E : Type 0} (cursor : ℕ) (found : List Left) (d0 d1 d2 : DiskState) (result : Result T E) → ((m : List ℕ) → d1.seen m ≡ d0.seen m) → OnOk result (All (IsOver cursor d1 d2) found) → OnOk result (All (IsOver cursor d0 d2) found)
 on_ok_over cursor found d0 d1 d2 (Ok value) same all = λ k z lt. over_before cursor d0 d1 d2 (get_or found k z) same (all k z lt)
 on_ok_over cursor found d0 d1 d2 (Err cause) same all = tt
-
--- a run of no call
-pub quiet_start : (d : DiskState) → ChangesNothing d d
-quiet_start d = grind (arith, no_call)
 
 module _ (is_true : Type 0) (Own : List ℕ → Type 0) (folder own : List ℕ) (cursor : ℕ) (d0 d1 : DiskState) (quiet : ChangesNothing d0 d1) where
   -- nothing was finished

@@ -75,10 +75,6 @@ module _ {X Y : Type 0} (f : X → Y) (none : X) (xs : List X) where
   pub contains_of_map : (y : Y) → Contains (map f xs) y → (x : X) × Contains xs x × (f x ≡ y)
   contains_of_map y (k, lt, is) = let low = within k lt in (get_or xs k none, Contains-get_or xs k none low, sym (get_or-map f xs k none y low) ∙ is)
 
-pub no_items : {X : Type 0} (xs : List X) → length xs ≡ 0 → xs ≡ []
-no_items [] is = refl
-no_items (x ∷ xs) is = absurd (omega (arith, is))
-
 -- ---- whether a list has a path
 
 list_either : (one other : List ℕ) → (one ≡ other) ⊎ (one ≢ other)

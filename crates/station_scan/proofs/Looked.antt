@@ -1,12 +1,10 @@
 -- A store that was looked through, before packets were sent out with its commit.
 use Rattle.std.{proofs.Common.{◌≡◌, ◌⊎◌, inl, inr, ⊎_elim, ◌∙◌, ℕ, List, refl, subst, arith}, specs.Prelude.{All, Err, Ok, OnOk, Result}}
 use Rattle.disk_io.{specs.{Disk.{DiskState, Files}, Runs.{ChangesNothing, LeavesOnly, OneStepOn}}, proofs.Moments.{then_run, weaker_run}}
-use Rattle.disk_atomic.specs.{Finishing.IsOfLeft, declared.finishing.Left.Left}
-use Rattle.cmd_store.specs.declared.command_error.CommandError.{CommandError}
-use Rattle.model_steps.specs.PacketFiles.{PacketFile}
-use Rattle.station_scan.specs.Scanning.{AreSentOut, CommitsScan, IsTaken, PreparesScan, SendsOut, StopsScan}
-use Rattle.station_scan.specs.{Left.IsLeftOf, Publishing.IsOnDisk, Sends.WasTriedFor, declared.scan_error.ScanError.ScanError, declared.scan_error.ScanError.TheVariants.Staying}
-use Rattle.station_scan.proofs.{Lefts.finishes_none, Staged.tried_before, Stops.put_wider, Stops.tells_as}
+use Rattle.{disk_atomic.specs.{Finishing.IsOfLeft, declared.finishing.Left.Left}, cmd_store.specs.declared.command_error.CommandError.CommandError}
+use Rattle.{model_steps.specs.PacketFiles.PacketFile, station_scan.specs.Scanning.{AreSentOut, CommitsScan, IsTaken, PreparesScan, SendsOut, StopsScan}}
+use Rattle.station_scan.specs.{Left.IsLeftOf, Publishing.IsOnDisk, Sends.WasTriedFor, declared.scan_error.ScanError.{ScanError, TheVariants.Staying}}
+use Rattle.station_scan.proofs.{Lefts.finishes_none, Staged.tried_before, Stops.{put_wider, tells_as}}
 
 -- the same files are seen
 pub same_seen : (a b : DiskState) → ChangesNothing a b → b.seen ≡ a.seen

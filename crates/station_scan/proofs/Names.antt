@@ -1,17 +1,11 @@
 -- Names of packets, and paths that are not the same.
 use Rattle.std.proofs.Common.{◌≡◌, ◌≢◌, ◌∙◌, ◌+◌, ◌<◌, ◌^◌, ◌==◌, ℕ, false, true≢false, List, [], ◌∷◌, ◌++◌, ap, arith, append_assoc, codes, decimal, get_or, length, length-append, refl, sym}
-use Rattle.std.proofs.lemmas.{Bool.eqb-false, Fmt.decimal_injective, List.Elements.All-append, List.Elements.All-from_recursion}
-use Rattle.std.proofs.lemmas.List.{append-nil, append_cancel_left, append_cancel_right, get_or-append-add}
-use Rattle.std.specs.{Prelude.All, Prelude.AllPairs, List.AllByRecursion, List.flat_map}
-use Rattle.echo_addr.{specs.declared.address.Address.Address, proofs.Decimals.{IsDigit, digits_of_decimal}}
+use Rattle.{std.proofs.lemmas.{Bool.eqb-false, Fmt.decimal_injective, List.Elements.{All-append, All-from_recursion}}, station.proofs.StagingPaths.staging_in}
+use Rattle.std.{proofs.lemmas.List.{append-nil, append_cancel_left, append_cancel_right, get_or-append-add}, specs.Prelude.{All, AllPairs}}
+use Rattle.{std.specs.List.{AllByRecursion, flat_map}, echo_addr.{specs.declared.address.Address.Address, proofs.Decimals.{IsDigit, digits_of_decimal}}}
 use Rattle.echo_filed.{specs.Sets.{address_before, address_set}, proofs.{Choices.all_weaker, Orders.address_order, Sets.{ascending_pairs, set_ascending}}}
-use Rattle.echo_links.specs.Links.{LinkFile, links_of}
-use Rattle.echo_toss.specs.Counts.{link_set}
-use Rattle.cmd_store.specs.PacketLines.{packet_name}
-use Rattle.station_scan.specs.Sending.{IsSized}
-use Rattle.disk_io.specs.Disk.{IsIn}
-use Rattle.disk_atomic.specs.{StagingPaths.staging_path, ListStaged.IsNameByte}
-use Rattle.station.proofs.StagingPaths.{staging_in}
+use Rattle.{echo_links.specs.Links.{LinkFile, links_of}, echo_toss.specs.Counts.link_set, cmd_store.specs.PacketLines.packet_name}
+use Rattle.{station_scan.specs.Sending.IsSized, disk_io.specs.Disk.IsIn, disk_atomic.specs.{StagingPaths.staging_path, ListStaged.IsNameByte}}
 
 -- the end of a staging path
 abbrev pub ending : List ℕ → List ℕ

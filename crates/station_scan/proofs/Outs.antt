@@ -1,18 +1,15 @@
 -- Leftover packets are finished. Then the packets of a scan and the commit of its store get to the disk.
 use Rattle.std.proofs.{Common.{◌≡◌, ◌<◌, ◌⊎◌, inl, inr, ⊎_elim, ◌∙◌, ℕ, List, All, get_or, subst, arith}, lemmas.{Bool.cases_lt, List.Elements.All-contains}}
-use Rattle.std.specs.Prelude.{Err, IfErr, Ok, OnOk, Result}
-use Rattle.base_file.specs.Base.{Base}
-use Rattle.disk_io.{specs.{Disk.{DiskState, Files}, Runs.{LeavesOnly, OneStepOn}}, proofs.Moments.{left_now, then_run, weaker_run}}
-use Rattle.disk_atomic.specs.{Finishing.FinishesEach, Finishing.IsOfLeft, Finishing.IsOver, declared.finishing.Left.Left, declared.placing_error.PlacingError.PlacingError}
-use Rattle.disk_atomic.specs.declared.placing_error.PlacingError.TheVariants.{Device, Taken}
-use Rattle.model_steps.specs.PacketFiles.{PacketFile}
-use Rattle.base_store.{specs.Store.StoreState, proofs.Runs.same_twice}
-use Rattle.station.specs.Beneath.{HoldsAsBefore, IsUsedAt}
-use Rattle.station_scan.specs.{Left.{AreFreeLeft, EndsLeft, IsEnded, IsEndedAt, IsLeftOf, IsOfNameOff}, declared.scan_error.ScanError.TheVariants.Placing}
-use Rattle.station_scan.specs.Scanning.{AreSentOut, CommitsScan, IsTaken, IsTouched, PreparesScan, SendsOut}
-use Rattle.station_scan.specs.{Fitting.AreTaken, Publishing.IsOnDisk, Publishing.KeepsStoreBut, Sending.HasBytes, Sending.IsAtItsPath, Sending.IsFreeAt, Sending.IsStagingGone, Sending.IsStagingOn}
-use Rattle.station_scan.specs.{Sends.AreSentOn, Sends.IsLeftAs, Sends.IsOfThese, Sends.SendsThese, Sends.WasTriedFor, Sends.WritesStaging, Stops.IsOfPlacing, Stops.most, declared.scan_error.ScanError.ScanError}
-use Rattle.station_scan.proofs.{Published.keeps_only, Published.keeps_then, Published.keeps_wider, Staged.tried_before, Stops.placing_why, Stops.put_wider, Stops.tells_as}
+use Rattle.{std.specs.Prelude.{Err, IfErr, Ok, OnOk, Result}, base_file.specs.Base.Base, disk_io.specs.{Disk.{DiskState, Files}, Runs.{LeavesOnly, OneStepOn}}}
+use Rattle.{disk_io.proofs.Moments.{left_now, then_run, weaker_run}, disk_atomic.specs.Finishing.{FinishesEach, IsOfLeft, IsOver}}
+use Rattle.disk_atomic.specs.declared.{finishing.Left.Left, placing_error.PlacingError.{PlacingError, TheVariants.{Device, Taken}}}
+use Rattle.{model_steps.specs.PacketFiles.PacketFile, base_store.{specs.Store.StoreState, proofs.Runs.same_twice}}
+use Rattle.{station.specs.Beneath.{HoldsAsBefore, IsUsedAt}, station_scan.specs.Left.{AreFreeLeft, EndsLeft, IsEnded, IsEndedAt, IsLeftOf, IsOfNameOff}}
+use Rattle.station_scan.{specs.declared.scan_error.ScanError.TheVariants.Placing, proofs.Stops.{placing_why, put_wider, tells_as}}
+use Rattle.station_scan.specs.{Scanning.{AreSentOut, CommitsScan, IsTaken, IsTouched, PreparesScan, SendsOut}, Fitting.AreTaken}
+use Rattle.station_scan.specs.{Publishing.{IsOnDisk, KeepsStoreBut}, Sending.{HasBytes, IsAtItsPath, IsFreeAt, IsStagingGone, IsStagingOn}}
+use Rattle.station_scan.specs.{Sends.{AreSentOn, IsLeftAs, IsOfThese, SendsThese, WasTriedFor, WritesStaging}, Stops.{IsOfPlacing, most}}
+use Rattle.station_scan.{specs.declared.scan_error.ScanError.ScanError, proofs.{Published.{keeps_only, keeps_then, keeps_wider}, Staged.tried_before}}
 
 -- a finished packet in the files seen
 pub is_ended : (cursor : ℕ) (d0 d1 : DiskState) (l : Left) → IsOver cursor d0 d1 l → IsEnded cursor d0.seen d1.seen l

@@ -2,23 +2,19 @@
 use Rattle.std.proofs.Common.{◌≡◌, ◌≢◌, ◌⊎◌, inl, inr, ⊎_elim, ◌∙◌, ◌<◌, ◌≤◌, ◌==◌, ◌&&◌, ◌+◌, ℕ, Bool, not, List, [], ◌∷◌, ◌++◌, get_or, length, length-append, drop, map, filter, refl, sym, subst, ap, append_assoc, arith}
 use Rattle.std.proofs.lemmas.{Bool.{cases_Bool, eqb-true, false_from_ne_true, le-ltb, ltb-false, ltb-true, lt-ltb}, List.{append-nil, drop_all, map-id}}
 use Rattle.std.proofs.lemmas.List.Elements.{All-contains, All-filter, All-head, All-map, All-tail, Contains-get_or}
-use Rattle.std.specs.Prelude.{All, None, Ok, OnOk, Result, nat_lt}
-use Rattle.base_file.specs.Base.{Base}
-use Rattle.disk_io.specs.{Disk.DiskState, Disk.Honestly, Runs.ChangesNothing, declared.disk_error.DiskError.DiskError}
-use Rattle.disk_atomic.specs.{Outgoing.IsAtStaging, Outgoing.IsFree, Outgoing.IsStagingGone, declared.outgoing.Outgoing.Outgoing, StagingPaths.staging_path}
-use Rattle.disk_atomic.proofs.Changes.{only_nothing, then_only, wider}
-use Rattle.cmd_store.specs.PacketLines.{packet_name}
-use Rattle.echo_addr.specs.declared.address.Address.{Address}
-use Rattle.echo_toss.{specs.Counts.{Group, IsGroupFrom, copies_out, counted_to, counted_with, has_messages, link_set}, proofs.Counts.{copies_append, more_in}}
-use Rattle.echo_toss.specs.{declared.counting.CountedPacket.CountedPacket, Exports.OutgoingMessage as Sent, Exports.sent_of}
-use Rattle.base_store.{specs.Store.{LooksOn, StoreState}, proofs.Runs.same_twice}
-use Rattle.station.specs.Beneath.{IsUsedAt}
+use Rattle.{std.specs.Prelude.{All, None, Ok, OnOk, Result, nat_lt}, base_file.specs.Base.Base, disk_io.specs.{Disk.{DiskState, Honestly}, Runs.ChangesNothing}}
+use Rattle.{disk_io.specs.declared.disk_error.DiskError.DiskError, disk_atomic.specs.Outgoing.{IsAtStaging, IsFree, IsStagingGone}}
+use Rattle.disk_atomic.{specs.{declared.outgoing.Outgoing.Outgoing, StagingPaths.staging_path}, proofs.Changes.{only_nothing, then_only, wider}}
+use Rattle.{cmd_store.specs.PacketLines.packet_name, echo_addr.specs.declared.address.Address.Address}
+use Rattle.echo_toss.specs.Counts.{Group, IsGroupFrom, copies_out, counted_to, counted_with, has_messages, link_set}
+use Rattle.echo_toss.{specs.{declared.counting.CountedPacket.CountedPacket, Exports.{OutgoingMessage as Sent, sent_of}}, proofs.Counts.{copies_append, more_in}}
+use Rattle.{base_store.{specs.Store.{LooksOn, StoreState}, proofs.Runs.same_twice}, station.specs.Beneath.IsUsedAt}
 use Rattle.station_scan.specs.Passing.{AreCounted, AreDropped, AreFor, AreGoneOrSame, AreGrowing, AreTakenTo, CanSend, Fits, FitTo, HasPassed, HasStaged, IsAppending, IsBetween, IsCounted, IsFront, IsGrowingTo, IsMaking, IsPartOf, IsRouted, IsStagingFor, IsStagingTo, IsTakenFor, StopsPassing, all_sent, begun_in, copied_in, counts_in, is_begun, is_filled, is_first, is_longer, is_made, links_to, made_in, path_to, staging_to, with_group}
-use Rattle.station_scan.specs.{Fitting.IsOff, Publishing.AreGoing, Publishing.AreGone, Publishing.IsGoingAt, Publishing.KeepsStoreBut, Scanning.IsTouched, Sending.AreRoutes}
+use Rattle.station_scan.specs.{Fitting.IsOff, Publishing.{AreGoing, AreGone, IsGoingAt, KeepsStoreBut}, Scanning.IsTouched, Sending.AreRoutes}
 use Rattle.station_scan.specs.declared.{counting.LinkPacket.LinkPacket, publish_error.PublishError.PublishError, sending.Sending.Sending}
 use Rattle.station_scan.proofs.{Lists.{among, kept_passes, map_filter, map_twice, of_each, to_each}, Written.{used_none, used_settled, used_twice}}
 use Rattle.station_scan.proofs.Routes.{address_for, all_for, begun_if, begun_narrow, copied_narrow, for_all, going, made_before, made_narrow, made_none, made_wider, more_made, path_off, plain_name, some_for, staging_at, staging_named, staging_of, staging_wider, trial_off}
-use Rattle.station_scan.proofs.{Grown.growing_same, Grown.growing_still, Published.holds_still, Published.keeps_only, Published.keeps_wider}
+use Rattle.station_scan.proofs.{Grown.{growing_same, growing_still}, Published.{holds_still, keeps_only, keeps_wider}}
 
 -- ---- a store that is used at more paths, or looked at
 

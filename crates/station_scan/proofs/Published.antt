@@ -1,15 +1,13 @@
 -- Packets and the commit of a store.
 use Rattle.std.proofs.{Common.{◌≡◌, inl, inr, ⊎_elim, ◌∙◌, ◌<◌, ℕ, List, None, ap, get_or, length, subst, sym, arith}, lemmas.List.Elements.All-contains}
-use Rattle.std.specs.Prelude.{All, Bool, IfErr, IfOk, OnOk, Result, true}
-use Rattle.base_file.specs.Base.{Base}
-use Rattle.disk_io.specs.{Disk.DiskState, Disk.Files, Disk.Honestly, Disk.bytes_in, Fixed.AreBytes, declared.disk_error.DiskError.DiskError, Runs.ChangesNothing, Runs.LeavesOnly, Runs.OneStepOn}
-use Rattle.disk_io.proofs.Moments.{then_run, weaker_run}
+use Rattle.{std.specs.Prelude.{All, Bool, IfErr, IfOk, OnOk, Result, true}, base_file.specs.Base.Base, station.specs.Beneath.{HoldsAsBefore, IsUsedAt}}
+use Rattle.disk_io.specs.{Disk.{DiskState, Files, Honestly, bytes_in}, Fixed.AreBytes, declared.disk_error.DiskError.DiskError}
+use Rattle.disk_io.{specs.Runs.{ChangesNothing, LeavesOnly, OneStepOn}, proofs.Moments.{then_run, weaker_run}}
 use Rattle.disk_atomic.specs.{Outgoing.{IsAtStaging, IsFilled, IsOfOne, IsStaged, SendsBytes, staged_in}, declared.outgoing.Outgoing.Outgoing}
-use Rattle.disk_atomic.specs.{Changes.ChangesOnly, Changes.DifferAt, Changes.HasOnDisk, Naming.HasItsPath, Naming.NamesEach, Naming.IsWholeAtEither, Publishing.IsApartFrom}
+use Rattle.disk_atomic.specs.{Changes.{ChangesOnly, DifferAt, HasOnDisk}, Naming.{HasItsPath, NamesEach, IsWholeAtEither}, Publishing.IsApartFrom}
 use Rattle.base_store.{specs.Store.{Commits, IsSameStore, LeavesEither, MayCommit, StoreState}, proofs.Runs.same_twice}
-use Rattle.station.specs.Beneath.{HoldsAsBefore, IsUsedAt}
 use Rattle.station_scan.specs.Publishing.{AreGoing, ArePublished, AreStaged, CommitsWith, IsGoingAt, IsNamedAs, IsPublishedAt, IsStagingOnDisk, IsWritten, UnchangedExcept, KeepsStoreBut, NoneStays, PublishesOn, no_files, StopsCommitting, StopsPublishing, staged_before}
-use Rattle.station_scan.specs.{declared.publish_error.PublishError.PublishError}
+use Rattle.station_scan.specs.declared.publish_error.PublishError.{PublishError}
 
 -- no own path of the store belongs to a packet
 pub own_not_of : (s : StoreState) (packets : List Outgoing) → All (IsApartFrom s.is_own) packets → (m : List ℕ) → s.is_own m → IsOfOne packets m → ⊥

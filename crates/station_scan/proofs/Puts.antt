@@ -1,24 +1,19 @@
 -- Leftover packets are finished, and then the packets of a scan are put in place.
 use Rattle.std.proofs.Common.{◌≡◌, ◌⊎◌, inl, inr, ⊎_elim, ◌∙◌, ◌<◌, ℕ, List, [], ◌++◌, Result, Ok, Err, refl, sym, subst, append_assoc, arith}
-use Rattle.std.{proofs.lemmas.{Result.on_ok_weaker, List.{append_cancel_left, Elements.All-contains}}, specs.Prelude.{All, IfErr, IsErrOf, None, OnOk}}
-use Rattle.base_file.specs.Base.{Base}
-use Rattle.disk_io.{specs.{Disk.{DiskState, Files}, Runs.ChangesNothing}, proofs.Moments.{then_nothing, weaker_run}}
-use Rattle.disk_atomic.specs.{Finishing.IsOfLeft, StagingPaths.dotted, StagingPaths.staging_path, ListStaged.IsNameByte, declared.finishing.Left.Left, declared.placing_error.PlacingError.PlacingError}
+use Rattle.{std.{proofs.lemmas.List.{append_cancel_left, Elements.All-contains}, specs.Prelude.{All, IfErr, IsErrOf, None}}, base_file.specs.Base.Base}
+use Rattle.{disk_io.{specs.{Disk.{DiskState, Files}, Runs.ChangesNothing}, proofs.Moments.{then_nothing, weaker_run}}, disk_atomic.specs.Finishing.IsOfLeft}
+use Rattle.disk_atomic.specs.{StagingPaths.dotted, ListStaged.IsNameByte, declared.{finishing.Left.Left, placing_error.PlacingError.PlacingError}}
+use Rattle.{cmd_status.specs.Devices.Output, cmd_store.specs.{Scanned.ScansOn, Stops.store_answer, declared.command_error.CommandError.CommandError}}
+use Rattle.{echo_toss.specs.PacketsIn.state_in, model_steps.specs.PacketFiles.PacketFile, base_store.specs.Store.{StoreState, all_scanned}}
+use Rattle.{station.specs.Beneath.IsUsedAt, station_scan.specs.{Scanning.{IsPutOn, IsTaken, ScansOnStore, SendsOut, StopsScan, packets_in}, Fitting.AreTaken}}
+use Rattle.station_scan.specs.Moved.{IsMoved, IsPutFrom, ScansFrom, StopsFrom, files_reported, from_number, left_cause, left_reported, reported_as}
+use Rattle.station_scan.specs.{Left.{AreFreeLeft, EndsLeft, IsLeftOf, IsOfNameOff}, Sending.IsStagingOfPacket, Sends.{IsLeftAs, WasTriedFor}}
+use Rattle.station_scan.specs.{Stops.{IsOfPlacing, most}, declared.{pieces.ScanSource.ScanSource, scan_error.ScanError.ScanError}}
+use Rattle.station_scan.specs.declared.{scan_error.ScanError.TheVariants.{Command, Placing, Staying}, sending.Sending.Sending}
+use Rattle.station_scan.proofs.{Outs.{is_ended, not_sent, sends_out, stopped_crash, stopped_only}, Reports.{reported_whole, reports_wider}, Lefts.finishes_none}
+use Rattle.station_scan.proofs.{Lists.among, Looked.same_seen, Names.{ending, not_staging, trial_no_path}, Scans.stops_quiet, Stops.{put_wider, tells_none}}
 use Rattle.disk_atomic.specs.declared.placing_error.PlacingError.TheVariants as placing
-use Rattle.cmd_status.specs.Devices.{Output}
-use Rattle.cmd_store.specs.{Scanned.ScansOn, Stops.store_answer, declared.command_error.CommandError.CommandError}
-use Rattle.echo_toss.specs.PacketsIn.{state_in}
-use Rattle.model_steps.specs.PacketFiles.{PacketFile}
-use Rattle.base_store.specs.Store.{StoreState, all_scanned}
 use Rattle.base_store.specs.declared.store_error.StoreError.TheVariants as error
-use Rattle.station.specs.Beneath.{IsUsedAt}
-use Rattle.station_scan.specs.Moved.{IsMoved, IsPutFrom, ScansFrom, StopsFrom, ReportsFrom, files_reported, from_number, left_cause, left_reported, reported_as}
-use Rattle.station_scan.specs.Scanning.{IsPutOn, IsTaken, ScansOnStore, SendsOut, StopsScan, packets_in}
-use Rattle.station_scan.specs.{Fitting.AreTaken, Left.AreFreeLeft, Left.EndsLeft, Left.IsLeftOf, Left.IsOfNameOff, Sending.IsStagingOfPacket, Sends.IsLeftAs, Sends.WasTriedFor}
-use Rattle.station_scan.specs.{Stops.IsOfPlacing, Stops.most, declared.pieces.ScanSource.ScanSource, declared.scan_error.ScanError.ScanError}
-use Rattle.station_scan.specs.declared.{scan_error.ScanError.TheVariants.Command, scan_error.ScanError.TheVariants.Placing, scan_error.ScanError.TheVariants.Staying, sending.Sending.Sending}
-use Rattle.station_scan.proofs.{Outs.{is_ended, not_sent, sends_out, stopped_crash, stopped_only}, Reports.{reported_whole, reports_wider}}
-use Rattle.station_scan.proofs.{Lefts.finishes_none, Lists.among, Looked.same_seen, Names.ending, Names.not_staging, Names.trial_no_path, Scans.stops_quiet, Staged.tried_after, Stops.put_wider, Stops.tells_none}
 
 -- a staging path is no packet's path
 path_not_staging : (outbound own : List ℕ) (files : List PacketFile) (m n : List ℕ) → IsStagingOfPacket outbound own files m → All IsNameByte n → m ≡ outbound ++ n → ⊥

@@ -1,28 +1,25 @@
 -- A scan once its cursor was moved: its lines are printed, or it stops.
 use Rattle.std.proofs.Common.{◌≡◌, inl, inr, ⊎_elim, ◌∙◌, ◌≤◌, ◌<◌, ℕ, true, List, Result, Ok, Err, map, drop, refl, sym, subst, ap, arith}
-use Rattle.std.specs.{Prelude.IsErrOf, List.flat_map}
-use Rattle.base_file.specs.Base.{Base}
-use Rattle.disk_io.{specs.{Disk.{DiskState, Files, Honestly}, Runs.ChangesNothing, declared.disk_error.DiskError.DiskError}, proofs.Moments.then_nothing}
-use Rattle.disk_io.specs.declared.disk_error.DiskError.TheVariants as disk
-use Rattle.disk_atomic.specs.declared.placing_error.PlacingError.{PlacingError}
-use Rattle.disk_atomic.specs.declared.placing_error.PlacingError.TheVariants as placing
-use Rattle.cmd_status.specs.Devices.{Output}
-use Rattle.cmd_store.specs.{PacketLines.counted_line, Answered.AnswersOn, Answered.AreLines, Answered.RefusesNone, Scanned.ScansOn, Scanned.files_scanned, Stops.store_answer}
+use Rattle.{std.specs.{Prelude.IsErrOf, List.flat_map}, base_file.specs.Base.Base, disk_io.specs.{Disk.{DiskState, Files, Honestly}, Runs.ChangesNothing}}
+use Rattle.disk_io.{specs.declared.disk_error.DiskError.DiskError, proofs.Moments.then_nothing}
+use Rattle.{disk_atomic.specs.declared.placing_error.PlacingError.PlacingError, cmd_status.specs.Devices.Output, cmd_store.specs.PacketLines.counted_line}
+use Rattle.cmd_store.specs.{Answered.{AnswersOn, AreLines, RefusesNone}, Scanned.{ScansOn, files_scanned}, Stops.store_answer}
 use Rattle.cmd_store.{specs.declared.command_error.CommandError.{CommandError, TheVariants.Store}, proofs.Scans.scan_printed}
-use Rattle.echo_toss.specs.{declared.counting.CountedPacket.CountedPacket, Counts.counted_of, Counts.counted_to, Counts.link_set, Exports.OutgoingMessage as Sent, Exports.sent_of, PacketsIn.state_in}
-use Rattle.echo_toss.proofs.Counts.{all_counted}
-use Rattle.model_steps.specs.{PacketFiles.PacketFile, Scanning.scanned, Stamps.is_stamp}
-use Rattle.base_store.{specs.{Store.{LooksOn, StoreState, all_scanned}, declared.store_error.StoreError.StoreError}, proofs.Runs.same_twice}
-use Rattle.base_store.specs.declared.store_error.StoreError.TheVariants as error
-use Rattle.station.specs.Beneath.{IsUsedAt}
+use Rattle.echo_toss.specs.{declared.counting.CountedPacket.CountedPacket, Counts.{counted_of, counted_to, link_set}}
+use Rattle.echo_toss.{specs.{Exports.{OutgoingMessage as Sent, sent_of}, PacketsIn.state_in}, proofs.Counts.all_counted}
+use Rattle.{model_steps.specs.{PacketFiles.PacketFile, Scanning.scanned, Stamps.is_stamp}, base_store.specs.Store.{LooksOn, StoreState, all_scanned}}
+use Rattle.{base_store.{specs.declared.store_error.StoreError.StoreError, proofs.Runs.{quiet_disk, same_twice}}, station.specs.Beneath.IsUsedAt}
 use Rattle.station_scan.specs.Moved.{HasReported, IsMoved, IsPutFrom, ScansFrom, SendsFrom, StopsFrom, ReportsFrom, files_reported, from_number, reported_as}
 use Rattle.station_scan.specs.Passing.{AreCounted, AreDropped, AreGoneOrSame, CanSend, HasStaged, IsPartOf, IsStagingTo, IsTakenFor, StopsPassing, all_sent, counts_in, is_made}
-use Rattle.station_scan.specs.{Fitting.AreTaken, Publishing.KeepsStoreBut, Scanning.IsTouched, Scanning.packets_in, Sending.IsStagingOfPacket, Sends.WritesStaging}
-use Rattle.station_scan.specs.{Stops.IsOfPlacing, Stops.IsUnplanned, Stops.most, declared.pieces.ScanSource.ScanSource, declared.publish_error.PublishError.PublishError}
+use Rattle.station_scan.specs.{Fitting.AreTaken, Publishing.KeepsStoreBut, Scanning.{IsTouched, packets_in}, Sending.IsStagingOfPacket, Sends.WritesStaging}
+use Rattle.station_scan.specs.{Stops.{IsOfPlacing, IsUnplanned, most}, declared.{pieces.ScanSource.ScanSource, publish_error.PublishError.PublishError}}
 use Rattle.station_scan.specs.declared.{counting.LinkPacket.LinkPacket, scan_error.ScanError.{ScanError, TheVariants.{Command, Placing, Staying, TooFar}}}
 use Rattle.station_scan.{specs.declared.sending.Sending.Sending, proofs.Stops.{placing_why, put_whole, put_wider}}
-use Rattle.station_scan.proofs.{Sendings.few_keeps, Sendings.sends_before, Sendings.writes_before, Files.files_are, Files.staging_files, Files.taken_files, Lefts.quiet_start}
-use Rattle.station_scan.proofs.{Passes.can_still, Passes.counts_are, Routes.staging_named, Published.keeps_nothing, Published.keeps_then, Published.keeps_wider}
+use Rattle.station_scan.proofs.{Sendings.{few_keeps, sends_before, writes_before}, Files.{files_are, staging_files, taken_files}}
+use Rattle.station_scan.proofs.{Passes.{can_still, counts_are}, Routes.staging_named, Published.{keeps_nothing, keeps_then, keeps_wider}}
+use Rattle.disk_io.specs.declared.disk_error.DiskError.TheVariants as disk
+use Rattle.disk_atomic.specs.declared.placing_error.PlacingError.TheVariants as placing
+use Rattle.base_store.specs.declared.store_error.StoreError.TheVariants as error
 
 -- ---- the printed lines
 
@@ -137,11 +134,11 @@ module _ {D : Type 0} (state : D → DiskState) (Own : List ℕ → Type 0) (to 
 
   pub scans_reading : (cause : StoreError) → AreDropped why → (cause ≡ error.Damaged → ⊥) → ScansFrom state Own to failed s0 s1 out out base (Err (Command (Store cause)))
   scans_reading cause dropped whole =
-      scans_unprinted state Own to failed s0 s1 stops.all stops.staged base moved still honest s1 (quiet_start s1.disk) out out (Store cause) (Err (Command (Store cause))) refl (inl (refl, stops.gone honest dropped)) (λ e. whole (cc e))
+      scans_unprinted state Own to failed s0 s1 stops.all stops.staged base moved still honest s1 (quiet_disk s1.disk) out out (Store cause) (Err (Command (Store cause))) refl (inl (refl, stops.gone honest dropped)) (λ e. whole (cc e))
 
   pub scans_staying : (left : DiskError) → (left ≡ disk.Device → failed) → ScansFrom state Own to failed s0 s1 out out base (Err (Staying left))
   scans_staying left device =
-      scans_unprinted state Own to failed s0 s1 stops.all stops.staged base moved still honest s1 (quiet_start s1.disk) out out (Store error.Memory) (Err (Staying left)) refl (inr (left, refl, staying_why failed left device)) (λ e. cc e)
+      scans_unprinted state Own to failed s0 s1 stops.all stops.staged base moved still honest s1 (quiet_disk s1.disk) out out (Store error.Memory) (Err (Staying left)) refl (inr (left, refl, staying_why failed left device)) (λ e. cc e)
 
 pub err_of : {T : Type 0} (done : Result T PublishError) (why what : PublishError) → done ≡ Err why → why ≡ what → IsErrOf done what
 err_of (Ok value) why what is same = absurd (cc is)

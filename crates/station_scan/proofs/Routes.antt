@@ -1,18 +1,13 @@
 -- Packets for links: which there are, and where they go.
 use Rattle.std.proofs.Common.{◌≡◌, ◌≢◌, inl, inr, ⊎_elim, ◌∙◌, ◌<◌, ◌&&◌, ℕ, Bool, true, false, true≢false, List, [], ◌∷◌, ◌++◌, get_or, length, filter, refl, sym, subst, ap, append_assoc, arith}
-use Rattle.std.proofs.lemmas.{Bool.cases_Bool, Bool.lt-ltb, List.append-nil, List.append_cancel_left, List.length-map, List.Elements.All-contains, List.Elements.All-map, List.Elements.Contains-get_or}
-use Rattle.std.{proofs.lemmas.List.Kept.AllPairs-filter, specs.Prelude.{All, AllPairs, Contains, nat_lt, not}}
-use Rattle.disk_io.specs.Disk.{IsIn}
-use Rattle.disk_atomic.specs.{ListStaged.IsNameByte, Outgoing.IsAtStaging, Outgoing.IsOfOne, StagingPaths.staging_path, declared.outgoing.Outgoing.Outgoing}
-use Rattle.disk_atomic.proofs.Packets.{nobody}
-use Rattle.echo_addr.specs.declared.address.Address.{Address}
-use Rattle.echo_packet.specs.Message.{Message}
-use Rattle.cmd_store.specs.PacketLines.{packet_name}
-use Rattle.echo_toss.{specs.{Counts.{copies_out, link_set}, Exports.OutgoingMessage as Sent}, proofs.Counts.{copies_append, has_later}}
-use Rattle.base_store.specs.Store.{StoreState}
-use Rattle.station.proofs.StagingPaths.{staging_other}
-use Rattle.station_scan.specs.Passing.{AreFor, Fits, IsRouted, IsStagingFor, is_begun, is_made, links_to, path_to, staging_to}
-use Rattle.station_scan.specs.{Left.IsOfNameOff, Publishing.AreGoing, Sending.AreRoutes, Sending.IsSized, Sending.route_to, declared.sending.Route.Route, declared.sending.Sending.Sending}
+use Rattle.std.proofs.lemmas.{Bool.{cases_Bool, lt-ltb}, List.{append-nil, append_cancel_left, length-map, Elements.{All-contains, All-map, Contains-get_or}}}
+use Rattle.{std.{proofs.lemmas.List.Kept.AllPairs-filter, specs.Prelude.{All, AllPairs, Contains, nat_lt, not}}, disk_io.specs.Disk.IsIn}
+use Rattle.disk_atomic.specs.{ListStaged.IsNameByte, Outgoing.{IsAtStaging, IsOfOne}, StagingPaths.staging_path, declared.outgoing.Outgoing.Outgoing}
+use Rattle.{disk_atomic.proofs.Packets.nobody, echo_addr.specs.declared.address.Address.Address, echo_packet.specs.Message.Message}
+use Rattle.{cmd_store.specs.PacketLines.packet_name, echo_toss.specs.{Counts.{copies_out, link_set}, Exports.OutgoingMessage as Sent}}
+use Rattle.{echo_toss.proofs.Counts.{copies_append, has_later}, base_store.specs.Store.StoreState, station.proofs.StagingPaths.staging_other}
+use Rattle.station_scan.specs.{Passing.{AreFor, Fits, IsRouted, IsStagingFor, is_begun, is_made, links_to, path_to, staging_to}, Left.IsOfNameOff}
+use Rattle.station_scan.specs.{Publishing.AreGoing, Sending.{AreRoutes, IsSized, route_to}, declared.sending.{Route.Route, Sending.Sending}}
 use Rattle.station_scan.proofs.Lists.{all_narrow, all_of_map, contains_map, contains_of_map, kept_passes, kept_wider, pairs_of_map}
 use Rattle.station_scan.proofs.Names.{AreFourApart, four_apart, links_differ, name_in, name_other, name_plain, name_some, name_staging_in, ending, not_staging, trial_in, trial_no_path, trial_not_staging}
 

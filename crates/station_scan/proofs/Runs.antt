@@ -1,19 +1,15 @@
 -- A scan of a store that was opened, as one of the station.
 use Rattle.std.{proofs.Common.{◌⊎◌, inl, inr, ⊎_elim, ◌∙◌, ℕ, List, Result, Ok, Err, refl, subst, sym, ◌++◌, arith}, specs.Prelude.{OnOk, get_or}}
-use Rattle.base_file.specs.Base.{Base}
-use Rattle.disk_io.specs.{Disk.DiskState, Disk.Files, Runs.ChangesNothing, Runs.LeavesOnly, Runs.OneStepOn}
-use Rattle.disk_io.proofs.Moments.{left_now, then_nothing, then_run, weaker_run}
-use Rattle.echo_links.specs.Links.{LinkFile}
-use Rattle.disk_atomic.specs.{declared.finishing.Left.Left, StagingPaths.dotted, StagingPaths.staging_path}
-use Rattle.cmd_status.specs.Devices.{Output}
-use Rattle.model_steps.specs.{PacketFiles.PacketFile, declared.stamp.Stamp.Stamp}
-use Rattle.base_store.specs.Store.{StoreState, all_scanned}
-use Rattle.cmd_store.specs.declared.command_error.CommandError.{CommandError}
-use Rattle.station.specs.{Beneath.AreSettledByOwn, Place.{IsOfPlace, KeepsElsewhere, Place, RepresentsAlone, RepresentsOrWasLeft}, Opening.IsOpenFor}
+use Rattle.{base_file.specs.Base.Base, disk_io.specs.{Disk.{DiskState, Files}, Runs.{ChangesNothing, LeavesOnly, OneStepOn}}}
+use Rattle.{disk_io.proofs.Moments.{left_now, then_nothing, then_run, weaker_run}, echo_links.specs.Links.LinkFile}
+use Rattle.{disk_atomic.specs.{declared.finishing.Left.Left, StagingPaths.{dotted, staging_path}}, cmd_status.specs.Devices.Output}
+use Rattle.{model_steps.specs.{PacketFiles.PacketFile, declared.stamp.Stamp.Stamp}, base_store.specs.Store.{StoreState, all_scanned}}
+use Rattle.{cmd_store.specs.declared.command_error.CommandError.CommandError, station.specs.Beneath.AreSettledByOwn}
+use Rattle.station.specs.{Place.{IsOfPlace, KeepsElsewhere, Place, RepresentsAlone, RepresentsOrWasLeft}, Opening.IsOpenFor}
 use Rattle.station_scan.specs.Scanning.{AreSentOut, CommitsScan, IsPutAs, IsOnItsWay, IsPreparing, IsPutIn, IsPutOn, IsScanOn, IsTaken, IsTouched, IsTriedIn, MayLeave, PreparesScan, ScansOnStore, SendsOut, StopsScan, StopsScanIn, ReportsStop, packets_in}
-use Rattle.station_scan.specs.{Fitting.AreFit, Left.AreAllLeft, Left.IsLeftOf, Publishing.IsOnDisk, Publishing.UnchangedExcept, Publishing.KeepsStoreBut, Sends.IsOfThese, Sends.WasTriedFor}
-use Rattle.station_scan.specs.declared.scan_error.ScanError.{ScanError, TheVariants.Staying}
-use Rattle.station_scan.proofs.{Lefts.finishes_none, Looked.same_seen, Published.keeps_nothing, Published.keeps_then, Published.keeps_wider, Stops.put_wider, Stops.tells_as}
+use Rattle.station_scan.specs.{Fitting.AreFit, Left.{AreAllLeft, IsLeftOf}, Publishing.{IsOnDisk, UnchangedExcept, KeepsStoreBut}}
+use Rattle.station_scan.{specs.{Sends.{IsOfThese, WasTriedFor}, declared.scan_error.ScanError.{ScanError, TheVariants.Staying}}, proofs.Lefts.finishes_none}
+use Rattle.station_scan.proofs.{Looked.same_seen, Published.{keeps_nothing, keeps_then, keeps_wider}, Stops.{put_wider, tells_as}}
 
 -- the same for another name of the same own paths
 module _ (Own Own2 : List ℕ → Type 0) (out : (m : List ℕ) → Own2 m → Own m) (outbound own : List ℕ) where
@@ -31,7 +27,6 @@ module _ (Own Own2 : List ℕ → Type 0) (out : (m : List ℕ) → Own2 m → O
   fit_as : (files : List PacketFile) → AreFit Own2 outbound own files → ((m : List ℕ) → Own m → Own2 m) → AreFit Own outbound own files
   fit_as files fit into = grind arith
 
-  -- the two paths of a packet
   taken_as : (cursor : ℕ) (found : List Left) (files : List PacketFile) (seen : Files) → ((m : List ℕ) → Own m → Own2 m) → IsTaken Own outbound own cursor found files seen → IsTaken Own2 outbound own cursor found files seen
   taken_as cursor found files seen into (inl left) =
       inl (λ free. left (λ name to. free name (record { plain = to.plain; off = record { path = λ o. to.off.path (out _ o); staging = λ o. to.off.staging (out _ o) }; there = to.there })))
@@ -103,7 +98,6 @@ module _ {D : Type 0} (state : D → DiskState) (place : Place) (d0 d2 : DiskSta
           (then_run d0 s1.disk s2.disk May Prepares_on (weaker_run d0 s1.disk (RepresentsOrWasLeft place d0 base) May (begun.run base represented) opened_prepares) crash (λ c on. inr (prepared_on c on)))
           quiet
 
-    -- the report of a scan that stopped
     stopped_reported : (files : List PacketFile) (some failed : Type 0) (why : CommandError) (result : Result (Unit {0}) ScanError) → (some → failed) → ReportsStop some outbound own files s1.disk.seen s2.disk.seen why result
         → ReportsStop failed outbound own files s1.disk.seen d2.seen why result
     stopped_reported files some failed why result wider (inl (is, gone)) = inl (is, λ m at. ⊎_elim (λ none. inl (quiet.seen m ∙ none)) (λ same. inr (quiet.seen m ∙ same)) (gone m at))

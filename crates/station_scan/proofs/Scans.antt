@@ -1,17 +1,12 @@
 -- A scan of a store.
-use Rattle.std.{proofs.Common.{ℕ, List, [], Result, ⊎_elim, arith, inl, inr, refl, subst, sym}, specs.Prelude.{Err, IsErrOf}}
-use Rattle.base_file.specs.Base.{Base}
-use Rattle.disk_io.{specs.{Disk.{DiskState, Files}, Runs.ChangesNothing}, proofs.Moments.weaker_run}
-use Rattle.echo_links.specs.Links.{LinkFile}
-use Rattle.disk_atomic.specs.StagingPaths.{dotted}
-use Rattle.cmd_status.specs.Devices.{Output}
-use Rattle.model_steps.specs.{PacketFiles.PacketFile, declared.stamp.Stamp.Stamp}
+use Rattle.{std.{proofs.Common.{ℕ, List, [], Result, ⊎_elim, arith, inl, inr, refl, subst, sym}, specs.Prelude.{Err, IsErrOf}}, base_file.specs.Base.Base}
+use Rattle.{disk_io.{specs.{Disk.{DiskState, Files}, Runs.ChangesNothing}, proofs.Moments.weaker_run}, echo_links.specs.Links.LinkFile}
+use Rattle.{disk_atomic.specs.StagingPaths.dotted, cmd_status.specs.Devices.Output, model_steps.specs.{PacketFiles.PacketFile, declared.stamp.Stamp.Stamp}}
 use Rattle.base_store.{specs.{Store.{IsSameStore, StoreState}, declared.store_error.StoreError.TheVariants.Damaged}, proofs.Runs.same_twice}
-use Rattle.cmd_store.specs.{Scanned.ScansOn, declared.command_error.CommandError.CommandError, declared.command_error.CommandError.TheVariants.Store}
-use Rattle.echo_toss.specs.PacketsIn.{state_in}
-use Rattle.station_scan.specs.{Publishing.KeepsStoreBut, Scanning.IsPutOn, Scanning.IsTouched, Scanning.ScansOnStore, Scanning.StopsScan, declared.scan_error.ScanError.ScanError}
-use Rattle.station_scan.specs.declared.scan_error.ScanError.TheVariants.{Command}
-use Rattle.station_scan.proofs.{Published.keeps_nothing, Published.keeps_then, Published.keeps_wider, Lefts.finishes_none, Looked.looked_out, Looked.looked_stop, Looked.same_seen}
+use Rattle.{cmd_store.specs.{Scanned.ScansOn, declared.command_error.CommandError.{CommandError, TheVariants.Store}}, echo_toss.specs.PacketsIn.state_in}
+use Rattle.station_scan.specs.{Publishing.KeepsStoreBut, Scanning.{IsPutOn, IsTouched, ScansOnStore, StopsScan}, declared.scan_error.ScanError.ScanError}
+use Rattle.station_scan.{specs.declared.scan_error.ScanError.TheVariants.Command, proofs.Published.{keeps_nothing, keeps_then, keeps_wider}}
+use Rattle.station_scan.proofs.{Lefts.finishes_none, Looked.{looked_out, looked_stop, same_seen}}
 
 -- it stopped, and nothing was written
 pub stops_quiet : (is_true failed : Type 0) (Own : List ℕ → Type 0) (outbound own : List ℕ) (cursor : ℕ) (files : List PacketFile) (s1 : StoreState) (new : DiskState) (base : Base) (why : CommandError)

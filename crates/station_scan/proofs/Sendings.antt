@@ -1,27 +1,25 @@
 -- A scan once its cursor was moved: packets are sent out after a pass over the messages.
 use Rattle.std.proofs.Common.{◌≡◌, ◌⊎◌, inl, inr, ⊎_elim, ◌∙◌, ◌<◌, ℕ, List, [], Result, Ok, Err, get_or, length, sym, subst, ap, arith}
-use Rattle.std.proofs.lemmas.{Result.on_ok_weaker, Bool.cases_lt, List.append-nil, List.Elements.All-contains, List.Elements.Contains-get_or, List.length-map}
-use Rattle.disk_atomic.proofs.Whole.{on_ok_any}
-use Rattle.std.specs.Prelude.{All, IfErr, IsErrOf, None, OnOk}
-use Rattle.base_file.specs.Base.{Base}
-use Rattle.disk_io.{specs.{Device.Failed, Disk.{DiskState, Files}, Runs.{LeavesOnly, OneStepOn}}, proofs.Moments.{left_now, then_run, weaker_run}}
-use Rattle.disk_io.specs.declared.disk_error.DiskError.TheVariants as disk
-use Rattle.disk_atomic.specs.{Changes.DifferAt, Outgoing.IsAtStaging, Outgoing.IsFilled, Outgoing.IsFree, Trying.WasTried, declared.outgoing.Outgoing.Outgoing, declared.placing_error.PlacingError.PlacingError}
-use Rattle.disk_atomic.specs.declared.placing_error.PlacingError.TheVariants as placing
-use Rattle.model_steps.specs.PacketFiles.{PacketFile}
-use Rattle.base_store.{specs.Store.{Commits, IsSameStore, LeavesEither, MayCommit, StoreState, all_scanned}, proofs.Runs.same_twice}
-use Rattle.echo_toss.specs.{Counts.link_set, Exports.OutgoingMessage as Sent}
-use Rattle.station.specs.Beneath.{HoldsAsBefore, IsUsedAt}
+use Rattle.std.proofs.lemmas.{Result.on_ok_weaker, Bool.cases_lt, List.{append-nil, length-map, Elements.{All-contains, Contains-get_or}}}
+use Rattle.{std.specs.Prelude.{All, IfErr, IsErrOf, None, OnOk}, disk_atomic.{proofs.Whole.on_ok_any, specs.Changes.DifferAt}}
+use Rattle.disk_atomic.specs.{Outgoing.{IsAtStaging, IsFilled, IsFree}, Trying.WasTried, declared.outgoing.Outgoing.Outgoing}
+use Rattle.{disk_atomic.specs.declared.placing_error.PlacingError.PlacingError, base_file.specs.Base.Base, disk_io.specs.Device.Failed}
+use Rattle.disk_io.{specs.{Disk.{DiskState, Files}, Runs.{LeavesOnly, OneStepOn}}, proofs.Moments.{left_now, then_run, weaker_run}}
+use Rattle.{model_steps.specs.PacketFiles.PacketFile, base_store.specs.Store.{Commits, IsSameStore, LeavesEither, MayCommit, StoreState, all_scanned}}
+use Rattle.{base_store.proofs.Runs.same_twice, echo_toss.specs.{Counts.link_set, Exports.OutgoingMessage as Sent}}
+use Rattle.{station.specs.Beneath.{HoldsAsBefore, IsUsedAt}, station_scan.specs.declared.{scan_error.ScanError.TheVariants.Staying, sending.Sending.Sending}}
 use Rattle.station_scan.specs.Passing.{AreFor, AreGrowing, CanSend, HasPassed, IsGrowingTo, IsStagingTo, all_sent, is_made, links_to}
 use Rattle.station_scan.specs.Publishing.{AreGone, ArePublished, HasPublishCause, IsFreeIn, IsGoingAt, IsPublishedAt, IsTriedWith, KeepsStoreBut, MayPublish, PublishesOn, StopsPublishing, ended_before, no_files}
 use Rattle.station_scan.specs.Sending.{HasBytes, IsAtItsPath, IsFreeAt, IsOfPacket, IsStagingGone, IsStagingOfPacket, IsStagingOn, IsWhole, IsWholeAlone, for_address}
-use Rattle.station_scan.specs.Sends.{AreSentOn, IsLeftAs, IsOfThese, SendsThese, WasTriedFor, WritesStaging}
-use Rattle.station_scan.specs.{Moved.IsMoved, Moved.SendsFrom, Fitting.AreTaken, Left.IsOfNameOff, Scanning.packets_in}
-use Rattle.station_scan.specs.{Stops.IsOfBase, Stops.IsOfPlacing, Stops.most, Stops.scan_done, declared.publish_error.PublishError.PublishError}
-use Rattle.station_scan.specs.declared.{publish_error.PublishError.TheVariants.Packets, counting.LinkPacket.LinkPacket, scan_error.ScanError.TheVariants.Staying, sending.Sending.Sending}
+use Rattle.station_scan.specs.{Sends.{AreSentOn, IsLeftAs, IsOfThese, SendsThese, WasTriedFor, WritesStaging}, Moved.{IsMoved, SendsFrom}, Fitting.AreTaken}
+use Rattle.station_scan.specs.{Left.IsOfNameOff, Scanning.packets_in, Stops.{IsOfBase, IsOfPlacing, most, scan_done}}
+use Rattle.station_scan.specs.declared.{publish_error.PublishError.{PublishError, TheVariants.Packets}, counting.LinkPacket.LinkPacket}
 use Rattle.station_scan.proofs.Files.{are_filled, are_whole, at_its_path, content_of, ended_has, file_to, files_are, files_bytes, files_to, growing_free, have_none, none_left, none_staging, of_packet, same_files, staging_files, staging_on, staging_packet}
 use Rattle.station_scan.proofs.Published.{bytes_as, commits_used, filled_as, holds_still, keeps_only, keeps_then, keeps_wider, path_as, store_wider, whole_as}
-use Rattle.station_scan.proofs.{Lists.kept_passes, Routes.address_for, Routes.path_off, Routes.staging_at, Routes.staging_named, Staged.tried_after, Stops.sent_why, Stops.tells_alone, Stops.tells_published}
+use Rattle.station_scan.proofs.{Lists.kept_passes, Routes.{address_for, path_off, staging_at, staging_named}, Staged.tried_after}
+use Rattle.station_scan.proofs.Stops.{sent_why, tells_alone, tells_published}
+use Rattle.disk_io.specs.declared.disk_error.DiskError.TheVariants as disk
+use Rattle.disk_atomic.specs.declared.placing_error.PlacingError.TheVariants as placing
 
 -- ---- staging files are written, and then the packets are sent
 
@@ -179,7 +177,6 @@ module _ {D : Type 0} (state : D → DiskState) (Own : List ℕ → Type 0) (to 
           tried = inr (inl (sym many ∙ none));
         }
 
-    -- they were ended and published
     abbrev content : Outgoing → List ℕ
     content = for_address (content_of to base)
 
@@ -226,7 +223,6 @@ module _ {D : Type 0} (state : D → DiskState) (Own : List ℕ → Type 0) (to 
           )) with.either;
     })
 
-    -- what is left of them
     back : IsSameStore s1 s2 → (b : Base) (c : Files) → s2.represented b c → s0.represented b c
     back same b c represented = (passed.used.same.represented b c).0 ((same.represented b c).0 represented)
 

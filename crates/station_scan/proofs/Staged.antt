@@ -1,11 +1,10 @@
 -- Packets in staging files, while a path is tried with the first of them.
-use Rattle.std.{proofs.Common.{◌≡◌, ◌≢◌, ◌⊎◌, inl, inr, ⊎_elim, ◌∙◌, ◌<◌, ℕ, List, ap, arith, get_or, length, sym}, specs.Prelude.{All, Contains}}
-use Rattle.std.proofs.lemmas.{Bool.cases_lt, List.get_or_default, List.Elements.All-contains, List.Elements.Contains-get_or}
-use Rattle.disk_io.specs.{Disk.DiskState, Runs.ChangesNothing}
-use Rattle.disk_atomic.specs.Outgoing.{ArePlaced, IsAtStaging, IsStaged, IsStagingFlushed, staged_in}
-use Rattle.disk_atomic.specs.{Changes.ChangesOnly, Changes.DifferAt, Changes.HasOnDisk, Trying.Tries, Trying.WasTried, StagingPaths.staging_path, declared.outgoing.Outgoing.Outgoing}
-use Rattle.disk_atomic.proofs.{Changes.stays_on_disk, Changes.wider, Packets.path_not_staging, Parts.all_on_disk}
-use Rattle.station_scan.specs.{Left.IsOfNameOff, Publishing.AreOpen, Publishing.IsTrial, Publishing.IsTriedWith, Publishing.IsWritten, Sends.WasTriedFor}
+use Rattle.std.proofs.{Common.{◌≡◌, ◌≢◌, ◌⊎◌, inl, inr, ⊎_elim, ◌∙◌, ◌<◌, ℕ, List, ap, arith, get_or, length, sym}, lemmas.{Bool.cases_lt, List.get_or_default}}
+use Rattle.{std.{proofs.lemmas.List.Elements.{All-contains, Contains-get_or}, specs.Prelude.{All, Contains}}, disk_io.specs.Disk.DiskState}
+use Rattle.{disk_io.specs.Runs.ChangesNothing, disk_atomic.specs.Outgoing.{ArePlaced, IsAtStaging, IsStaged, IsStagingFlushed, staged_in}}
+use Rattle.disk_atomic.specs.{Changes.{ChangesOnly, DifferAt, HasOnDisk}, Trying.{Tries, WasTried}, StagingPaths.staging_path}
+use Rattle.disk_atomic.{specs.declared.outgoing.Outgoing.Outgoing, proofs.{Changes.{stays_on_disk, wider}, Packets.path_not_staging, Parts.all_on_disk}}
+use Rattle.station_scan.specs.{Left.IsOfNameOff, Publishing.{AreOpen, IsTrial, IsTriedWith, IsWritten}, Sends.WasTriedFor}
 
 -- it was tried after a run at these paths
 pub tried_after : {D : Type 0} (state : D → DiskState) (few paths : List ℕ → Type 0) (trial : List ℕ) (d0 d1 : DiskState) → ((m : List ℕ) → few m → paths m) → DifferAt paths d0.seen d1.seen

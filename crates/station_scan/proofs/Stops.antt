@@ -1,16 +1,14 @@
 -- Why a scan stopped.
 use Rattle.std.{proofs.Common.{◌≡◌, ◌⊎◌, ℕ, List, inl, inr, ⊎_elim, subst, arith}, specs.Prelude.{All, Err, IfErr, IsErrOf, Ok, Result}}
-use Rattle.base_file.specs.Base.{Base}
-use Rattle.disk_io.specs.declared.disk_error.DiskError.TheVariants as disk
-use Rattle.disk_atomic.specs.{declared.{placing_error.PlacingError.PlacingError, outgoing.Outgoing.Outgoing}, Outgoing.IsFilled}
-use Rattle.disk_atomic.specs.declared.placing_error.PlacingError.TheVariants as placing
-use Rattle.base_store.specs.Store.{Commits, StoreState}
-use Rattle.base_store.specs.declared.store_error.StoreError.TheVariants as error
-use Rattle.station.specs.Beneath.{HoldsAsBefore}
-use Rattle.cmd_store.specs.declared.command_error.CommandError.TheVariants.{Store}
-use Rattle.station_scan.specs.{Publishing.AreGone, Publishing.StopsPublishing, Stops.IsOfBase, Stops.IsOfPlacing, Stops.TellsLeft, Stops.scan_done, Stops.stop_of, declared.scan_error.ScanError.ScanError}
-use Rattle.station_scan.specs.declared.{scan_error.ScanError.TheVariants.Command, scan_error.ScanError.TheVariants.Placing, scan_error.ScanError.TheVariants.Staying, scan_error.ScanError.TheVariants.TooFar, publish_error.PublishError.PublishError}
+use Rattle.{base_file.specs.Base.Base, disk_atomic.specs.{declared.{placing_error.PlacingError.PlacingError, outgoing.Outgoing.Outgoing}, Outgoing.IsFilled}}
+use Rattle.{base_store.specs.Store.{Commits, StoreState}, station.specs.Beneath.HoldsAsBefore}
+use Rattle.{cmd_store.specs.declared.command_error.CommandError.TheVariants.Store, station_scan.specs.Publishing.{AreGone, StopsPublishing}}
+use Rattle.station_scan.specs.{Stops.{IsOfBase, IsOfPlacing, TellsLeft, scan_done, stop_of}, declared.scan_error.ScanError.ScanError}
+use Rattle.station_scan.specs.declared.{scan_error.ScanError.TheVariants.{Command, Placing, Staying, TooFar}, publish_error.PublishError.PublishError}
 use Rattle.station_scan.specs.declared.publish_error.PublishError.TheVariants.{Base as OfBase, Reading, Staging, Packets}
+use Rattle.disk_io.specs.declared.disk_error.DiskError.TheVariants as disk
+use Rattle.disk_atomic.specs.declared.placing_error.PlacingError.TheVariants as placing
+use Rattle.base_store.specs.declared.store_error.StoreError.TheVariants as error
 
 module _ (failed taken far : Type 0) where
   -- what stopped the publishing, as what stopped the scan

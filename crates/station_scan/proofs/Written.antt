@@ -1,14 +1,11 @@
 -- Packets that are written group by group, while their store is read.
-use Rattle.std.{proofs.Common.{inl, inr, ℕ, List, arith, get_or}, specs.Prelude.{All, Err, IfOk, Ok, OnOk, Result}}
-use Rattle.disk_io.specs.{Disk.DiskState, Disk.Honestly, Disk.IsIn, Runs.KeepsNamed, declared.disk_error.DiskError.DiskError}
-use Rattle.disk_atomic.specs.Outgoing.{ArePlaced, CanGrowStaging, IsAtStaging, IsLonger, IsMade, IsFree, IsStagingOne, SendsBytes}
-use Rattle.disk_atomic.specs.{Changes.ChangesOnly, declared.outgoing.Outgoing.Outgoing}
-use Rattle.disk_atomic.proofs.{Changes.only_start, Changes.then_only, Growing.are_both, Packets.path_not_staging, Whole.some_is_there}
-use Rattle.echo_addr.specs.declared.address.Address.{Address}
-use Rattle.base_store.{specs.Store.StoreState, proofs.Runs.{same_store, same_twice}}
-use Rattle.station.specs.Beneath.{AreSettledByOwn, IsUsedAt}
-use Rattle.station_scan.specs.{Publishing.{AreOpen, IsTriedWith}, Writing.IsBegun, declared.writing.Batch.Batch}
-use Rattle.station_scan.proofs.{Published.holds_now, Published.holds_still, Staged.tried_after}
+use Rattle.{std.{proofs.Common.{inl, inr, ℕ, List, arith, get_or}, specs.Prelude.{All, Err, IfOk, Ok, OnOk, Result}}, station_scan.proofs.Staged.tried_after}
+use Rattle.disk_io.specs.{Disk.{DiskState, Honestly, IsIn}, Runs.KeepsNamed, declared.disk_error.DiskError.DiskError}
+use Rattle.disk_atomic.specs.{Outgoing.{ArePlaced, CanGrowStaging, IsAtStaging, IsLonger, IsMade, IsFree, IsStagingOne, SendsBytes}, Changes.ChangesOnly}
+use Rattle.disk_atomic.{specs.declared.outgoing.Outgoing.Outgoing, proofs.{Changes.{only_start, then_only}, Growing.are_both, Packets.path_not_staging}}
+use Rattle.{disk_atomic.proofs.Whole.some_is_there, echo_addr.specs.declared.address.Address.Address, base_store.specs.Store.StoreState}
+use Rattle.{base_store.proofs.Runs.{same_store, same_twice}, station.specs.Beneath.{AreSettledByOwn, IsUsedAt}}
+use Rattle.station_scan.{specs.{Publishing.{AreOpen, IsTriedWith}, Writing.IsBegun, declared.writing.Batch.Batch}, proofs.Published.{holds_now, holds_still}}
 
 -- ---- a store after several uses of its disk
 

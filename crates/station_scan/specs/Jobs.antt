@@ -1,12 +1,11 @@
 -- The work of a scan on the disk of its store.
 use Rattle.std.specs.Prelude.{◌≡◌, ◌<◌, ℕ, List, ◌++◌, length, Bool, true, false, All, Result, IfErr, IfOk, IsErrOf, OnOk}
-use Rattle.disk_io.specs.{Disk.DiskState, Disk.Honestly, Runs.HasCause, Runs.LeavesOnly, Runs.OneStepOn, declared.disk_error.DiskError.DiskError}
-use Rattle.disk_atomic.specs.Outgoing.{ArePlaced, IsFree, IsStaged, staged_in}
-use Rattle.disk_atomic.specs.{ListStaged.AreListed, Naming.HasItsPath, Naming.NamesEach, Publishing.HasPlacingCause}
-use Rattle.disk_atomic.specs.declared.{listing.StagedPacket.StagedPacket, outgoing.Outgoing.Outgoing, placing_error.PlacingError.PlacingError, placing_error.PlacingError.TheVariants.Taken}
-use Rattle.echo_toss.specs.Exports.{OutgoingMessage as Sent}
-use Rattle.station_scan.specs.{Left.AreFreeLeft, Left.EndsLeft, Passing.AreGrowing, Passing.IsAppending, Publishing.AreGone, Publishing.AreStaged, Publishing.HasStageCause, Publishing.IsTriedWith}
-use Rattle.station_scan.specs.Publishing.{IsStagingOnDisk, IsWritten, NoneStays, ended_in}
+use Rattle.disk_io.specs.{Disk.{DiskState, Honestly}, Runs.{HasCause, LeavesOnly, OneStepOn}, declared.disk_error.DiskError.DiskError}
+use Rattle.disk_atomic.specs.{Outgoing.{ArePlaced, IsFree, IsStaged, staged_in}, ListStaged.AreListed, Naming.{HasItsPath, NamesEach}}
+use Rattle.disk_atomic.specs.{Publishing.HasPlacingCause, declared.{listing.StagedPacket.StagedPacket, outgoing.Outgoing.Outgoing}}
+use Rattle.{disk_atomic.specs.declared.placing_error.PlacingError.{PlacingError, TheVariants.Taken}, echo_toss.specs.Exports.OutgoingMessage as Sent}
+use Rattle.station_scan.specs.{Left.{AreFreeLeft, EndsLeft}, Passing.{AreGrowing, IsAppending}}
+use Rattle.station_scan.specs.Publishing.{AreGone, AreStaged, HasStageCause, IsStagingOnDisk, IsTriedWith, IsWritten, NoneStays, ended_in}
 use Rattle.station_scan.specs.declared.{publish_error.PublishError.PublishError, sending.Sending.Sending, writing.Batch.Batch}
 
 -- The listed leftover packets were finished, by the cursor. The numbers are how often the disk failed before and after, here and below.

@@ -1,21 +1,17 @@
 -- A scan once its cursor was moved: its packets are sent out, or it stops while they are made.
-use Rattle.std.specs.Prelude.{◌≡◌, ◌≤◌, ◌⊎◌, ◌<◌, ℕ, List, All, Result, Ok, Err, IfErr, IsErrOf, OnOk}
-use Rattle.base_file.specs.Base.{Base}
-use Rattle.disk_io.specs.{Device.Failed, Disk.DiskState, Disk.Files, Disk.Honestly, Runs.LeavesOnly, declared.disk_error.DiskError.DiskError}
-use Rattle.disk_io.specs.declared.disk_error.DiskError.TheVariants as disk
-use Rattle.disk_atomic.specs.{Changes.DifferAt, declared.placing_error.PlacingError.PlacingError}
-use Rattle.disk_atomic.specs.declared.placing_error.PlacingError.TheVariants as placing
-use Rattle.cmd_status.specs.Devices.{Output}
-use Rattle.model_steps.specs.PacketFiles.{PacketFile}
-use Rattle.base_store.specs.Store.{HasStoreCause, LooksOn, StoreState, all_scanned}
-use Rattle.base_store.specs.declared.store_error.StoreError.TheVariants as error
-use Rattle.cmd_store.specs.{Scanned.{ScansOn, files_scanned}, Stops.store_answer, declared.command_error.CommandError.{CommandError, TheVariants.{Met, Store}}}
-use Rattle.echo_toss.specs.{Bounds.IsFullWhenRead, PacketsIn.state_in}
-use Rattle.station.specs.Beneath.{HoldsAsBefore}
-use Rattle.station_scan.specs.Sends.{AreSentOn, IsLeftAs, IsOfThese, SendsThese, WasTriedFor, WritesStaging}
-use Rattle.station_scan.specs.{Beneath.IsFullOnWay, Fitting.AreTaken, Passing.AreGoneOrSame, Publishing.KeepsStoreBut, Scanning.packets_in, Sending.IsFreeAt, Sending.IsStagingOfPacket, Stops.IsOfPlacing, Stops.most}
-use Rattle.station_scan.specs.declared.{pieces.ScanSource.ScanSource, sending.Sending.Sending, scan_error.ScanError.ScanError}
+use Rattle.{std.specs.Prelude.{◌≡◌, ◌≤◌, ◌⊎◌, ◌<◌, ℕ, List, All, Result, Ok, Err, IfErr, IsErrOf, OnOk}, base_file.specs.Base.Base, disk_io.specs.Device.Failed}
+use Rattle.{disk_io.specs.{Disk.{DiskState, Files, Honestly}, Runs.LeavesOnly, declared.disk_error.DiskError.DiskError}, disk_atomic.specs.Changes.DifferAt}
+use Rattle.{disk_atomic.specs.declared.placing_error.PlacingError.PlacingError, cmd_status.specs.Devices.Output, model_steps.specs.PacketFiles.PacketFile}
+use Rattle.{base_store.specs.Store.{HasStoreCause, LooksOn, StoreState, all_scanned}, cmd_store.specs.{Scanned.{ScansOn, files_scanned}, Stops.store_answer}}
+use Rattle.{cmd_store.specs.declared.command_error.CommandError.{CommandError, TheVariants.{Met, Store}}, echo_toss.specs.Bounds.IsFullWhenRead}
+use Rattle.{echo_toss.specs.PacketsIn.state_in, station.specs.Beneath.HoldsAsBefore}
+use Rattle.station_scan.specs.{Sends.{AreSentOn, IsLeftAs, IsOfThese, SendsThese, WasTriedFor, WritesStaging}, Beneath.IsFullOnWay, Fitting.AreTaken}
+use Rattle.station_scan.specs.{Passing.AreGoneOrSame, Publishing.KeepsStoreBut, Scanning.packets_in, Sending.{IsFreeAt, IsStagingOfPacket}}
+use Rattle.station_scan.specs.{Stops.{IsOfPlacing, most}, declared.{pieces.ScanSource.ScanSource, sending.Sending.Sending, scan_error.ScanError.ScanError}}
 use Rattle.station_scan.specs.declared.scan_error.ScanError.TheVariants.{Command, Placing, Staying}
+use Rattle.disk_io.specs.declared.disk_error.DiskError.TheVariants as disk
+use Rattle.disk_atomic.specs.declared.placing_error.PlacingError.TheVariants as placing
+use Rattle.base_store.specs.declared.store_error.StoreError.TheVariants as error
 
 -- The store committed this base, and holds it with the cursor at its end. The number is that of the cursor before.
 pub record IsMoved (s : StoreState) (from : ℕ) (base : Base) : Type 0 where

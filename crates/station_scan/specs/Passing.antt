@@ -1,17 +1,12 @@
 -- The packets of a scan while their staging files grow, during the pass over the messages.
 use Rattle.std.specs.Prelude.{◌≡◌, ◌⊎◌, ◌==◌, ℕ, Bool, true, not, nat_lt, ◌&&◌, List, ◌++◌, map, filter, drop, All, Contains, None}
-use Rattle.disk_io.specs.{Disk.{DiskState, Files, Honestly, IsIn, bytes_in}, Fixed.AreBytes}
-use Rattle.disk_atomic.specs.{Changes.CanGrow, StagingPaths.staging_path, declared.outgoing.Outgoing.Outgoing}
-use Rattle.echo_addr.specs.declared.address.Address.{Address}
-use Rattle.echo_packet.specs.{Header.header_bytes, Message.messages_bytes}
-use Rattle.model_steps.specs.{Scanning.header_to, Stamps.is_stamp}
-use Rattle.base_file.specs.Base.{Base}
-use Rattle.echo_toss.specs.Counts.{copies_out, counted_to, counted_with, has_messages, link_set}
-use Rattle.echo_toss.specs.{Exports.OutgoingMessage as Sent, Exports.sent_of, declared.counting.CountedPacket.CountedPacket}
-use Rattle.cmd_store.specs.PacketLines.{packet_name}
-use Rattle.base_store.specs.Store.{StoreState}
-use Rattle.station.specs.Beneath.{AreSettledByOwn, IsUsedAt}
-use Rattle.station_scan.specs.{Sending.AreRoutes, declared.{counting.LinkPacket.LinkPacket, publish_error.PublishError.PublishError, sending.Sending.Sending}}
+use Rattle.{disk_io.specs.{Disk.{DiskState, Files, Honestly, IsIn, bytes_in}, Fixed.AreBytes}, disk_atomic.specs.{Changes.CanGrow, StagingPaths.staging_path}}
+use Rattle.{disk_atomic.specs.declared.outgoing.Outgoing.Outgoing, echo_addr.specs.declared.address.Address.Address, echo_packet.specs.Header.header_bytes}
+use Rattle.{echo_packet.specs.Message.messages_bytes, model_steps.specs.{Scanning.header_to, Stamps.is_stamp}, base_file.specs.Base.Base}
+use Rattle.echo_toss.specs.{Counts.{copies_out, counted_to, counted_with, has_messages, link_set}, Exports.{OutgoingMessage as Sent, sent_of}}
+use Rattle.{echo_toss.specs.declared.counting.CountedPacket.CountedPacket, cmd_store.specs.PacketLines.packet_name, base_store.specs.Store.StoreState}
+use Rattle.{station.specs.Beneath.{AreSettledByOwn, IsUsedAt}, station_scan.specs.{Sending.AreRoutes, declared.counting.LinkPacket.LinkPacket}}
+use Rattle.station_scan.specs.declared.{publish_error.PublishError.PublishError, sending.Sending.Sending}
 use Rattle.station_scan.specs.declared.publish_error.PublishError.TheVariants.{Base as OfBase, Packets, Reading, Staging}
 
 -- The store can be used, and the packets go to planned paths. The stamp is right, and the station owns the paths of the store.

@@ -1,17 +1,15 @@
 -- Packets and the commit of a store.
-use Rattle.std.specs.Prelude.{◌≡◌, ◌≤◌, ◌⊎◌, ℕ, List, ◌++◌, length, Bool, true, false, All, None, Result, Ok, Err, IsErrOf}
-use Rattle.base_file.specs.Base.{Base}
-use Rattle.disk_io.specs.Runs.{KeepsAlone, KeepsFlushed, KeepsNamed, LeavesOnly, OneStepOn}
-use Rattle.disk_io.specs.{Device.Failed, Disk.DiskState, Disk.Files, Disk.Honestly, Disk.IsIn, declared.disk_error.DiskError.DiskError}
-use Rattle.disk_io.specs.declared.disk_error.DiskError.TheVariants as disk_error
+use Rattle.{std.specs.Prelude.{◌≡◌, ◌≤◌, ◌⊎◌, ℕ, List, ◌++◌, length, Bool, true, false, All, None, Result, Ok, Err, IsErrOf}, base_file.specs.Base.Base}
+use Rattle.disk_io.specs.{Runs.{KeepsAlone, KeepsFlushed, KeepsNamed, LeavesOnly, OneStepOn}, Device.Failed, Disk.{DiskState, Files, Honestly, IsIn}}
+use Rattle.disk_io.specs.declared.disk_error.DiskError.{DiskError}
 use Rattle.disk_atomic.specs.Outgoing.{ArePlaced, CanGrowStaging, IsAtStaging, IsFilled, IsFree, IsStagingGone, IsOfOne, IsStaged, SendsBytes, staged_in}
-use Rattle.disk_atomic.specs.{Changes.DifferAt, Naming.HasItsPath, Naming.IsWholeAtEither, Publishing.IsApartFrom, Publishing.placing_cause, Trying.WasTried, declared.outgoing.Outgoing.Outgoing}
+use Rattle.disk_atomic.specs.{Changes.DifferAt, Naming.{HasItsPath, IsWholeAtEither}, Publishing.{IsApartFrom, placing_cause}, Trying.WasTried}
+use Rattle.{disk_atomic.specs.declared.outgoing.Outgoing.Outgoing, echo_packet.specs.Header.word, base_store.specs.Store.{Commits, IsSameStore, StoreState}}
+use Rattle.{base_store.specs.declared.store_error.StoreError.StoreError, station.specs.Beneath.HoldsAsBefore, station_scan.specs.Beneath.IsFullOnWay}
+use Rattle.station_scan.specs.declared.publish_error.PublishError.{PublishError, TheVariants.{Base as OfBase, Reading, Staging, Packets}}
+use Rattle.disk_io.specs.declared.disk_error.DiskError.TheVariants as disk_error
 use Rattle.disk_atomic.specs.declared.placing_error.PlacingError.TheVariants as placing
-use Rattle.echo_packet.specs.Header.{word}
-use Rattle.base_store.specs.{Store.Commits, Store.IsSameStore, Store.StoreState, declared.store_error.StoreError.StoreError}
 use Rattle.base_store.specs.declared.store_error.StoreError.TheVariants as store
-use Rattle.station.specs.Beneath.{HoldsAsBefore}
-use Rattle.station_scan.specs.{Beneath.IsFullOnWay, declared.publish_error.PublishError.{PublishError, TheVariants.{Base as OfBase, Reading, Staging, Packets}}}
 
 -- What the path leads to is on the disk.
 abbrev pub IsOnDisk : DiskState → List ℕ → Type 0

@@ -1,18 +1,15 @@
 -- A scan is run on a station.
-use Rattle.std.specs.Prelude.{◌≡◌, ◌⊎◌, ◌<◌, ℕ, List, length, map, None, Result, Ok, Err, All, IfErr, IsErrOf, OnOk}
-use Rattle.base_file.specs.Base.{Base}
-use Rattle.disk_io.specs.{Disk.DiskState, Disk.Files, Runs.LeavesOnly, Runs.OneStepOn, declared.disk_error.DiskError.DiskError}
-use Rattle.echo_links.specs.Links.{LinkFile}
-use Rattle.disk_atomic.specs.{Changes.DifferAt, Finishing.FinishesEach, Finishing.IsOfLeft, Trying.WasTried, declared.finishing.Left.Left, StagingPaths.dotted, StagingPaths.staging_path}
-use Rattle.cmd_status.specs.{declared.fault.Fault.Fault, Devices.Output}
-use Rattle.model_steps.specs.{PacketFiles.PacketFile, Scanning.scanned, declared.stamp.Stamp.Stamp}
-use Rattle.base_store.specs.{Store.StoreState, Store.all_scanned, declared.store_error.StoreError.TheVariants.Damaged, declared.store_error.StoreError.TheVariants.Device}
-use Rattle.cmd_store.specs.{PacketLines.file_sent, Scanned.ScansOn, declared.command_error.CommandError.CommandError, declared.command_error.CommandError.TheVariants.Store}
-use Rattle.echo_toss.specs.PacketsIn.{state_in}
-use Rattle.station.specs.{Place.Place, Place.RepresentsOrWasLeft, Running.IsNotRun, Running.IsStopped}
+use Rattle.{std.specs.Prelude.{◌≡◌, ◌⊎◌, ◌<◌, ℕ, List, length, map, None, Result, Ok, Err, All, IfErr, IsErrOf, OnOk}, base_file.specs.Base.Base}
+use Rattle.{disk_io.specs.{Disk.{DiskState, Files}, Runs.{LeavesOnly, OneStepOn}, declared.disk_error.DiskError.DiskError}, echo_links.specs.Links.LinkFile}
+use Rattle.disk_atomic.specs.{Changes.DifferAt, Finishing.{FinishesEach, IsOfLeft}, Trying.WasTried, declared.finishing.Left.Left}
+use Rattle.{disk_atomic.specs.StagingPaths.{dotted, staging_path}, cmd_status.specs.{declared.fault.Fault.Fault, Devices.Output}}
+use Rattle.{model_steps.specs.{PacketFiles.PacketFile, Scanning.scanned, declared.stamp.Stamp.Stamp}, base_store.specs.Store.{StoreState, all_scanned}}
+use Rattle.{base_store.specs.declared.store_error.StoreError.TheVariants.{Damaged, Device}, cmd_store.specs.{PacketLines.file_sent, Scanned.ScansOn}}
+use Rattle.{cmd_store.specs.declared.command_error.CommandError.{CommandError, TheVariants.Store}, echo_toss.specs.PacketsIn.state_in}
+use Rattle.station.specs.{Place.{Place, RepresentsOrWasLeft}, Running.{IsNotRun, IsStopped}}
 use Rattle.station_scan.specs.Left.{AreAllLeft, AreFreeLeft, IsEnded, IsEndedAt, IsLeftOf, IsOfName}
-use Rattle.station_scan.specs.Sending.{HasBytes, IsAtItsPath, IsStagingOfPacket, IsFreeAt, IsStagingGone, IsStagingOn, IsWholeAlone}
-use Rattle.station_scan.specs.{Fitting.AreTaken, Publishing.IsOnDisk, Sends.IsLeftAs, Sends.IsOfThese, Sends.WasTriedFor, Stops.IsOfPlacing, Stops.as_scan, Stops.most, declared.scan_error.ScanError.ScanError}
+use Rattle.station_scan.specs.{Sending.{HasBytes, IsAtItsPath, IsStagingOfPacket, IsFreeAt, IsStagingGone, IsStagingOn, IsWholeAlone}, Fitting.AreTaken, Publishing.IsOnDisk}
+use Rattle.station_scan.specs.{Sends.{IsLeftAs, IsOfThese, WasTriedFor}, Stops.{IsOfPlacing, as_scan, most}, declared.scan_error.ScanError.ScanError}
 use Rattle.station_scan.specs.declared.scan_error.ScanError.TheVariants.{Command, Staying}
 
 -- one of the station's own paths, or the path or staging path of a packet's name in the folder of packets

@@ -1,14 +1,9 @@
 -- The packets of a scan, on their way to their paths.
-use Rattle.std.specs.Prelude.{◌≡◌, ◌≢◌, ◌⊎◌, ◌<◌, ◌^◌, ℕ, List, [], ◌++◌, map, All, Contains, Some, None}
-use Rattle.disk_io.specs.{Fixed.AreBytes, Disk.DiskState, Disk.Files}
-use Rattle.echo_addr.specs.declared.address.Address.{Address}
-use Rattle.echo_links.specs.Links.{LinkFile}
-use Rattle.echo_toss.specs.Counts.{link_set}
-use Rattle.cmd_store.specs.PacketLines.{packet_name}
-use Rattle.model_steps.specs.PacketFiles.{PacketFile}
-use Rattle.disk_atomic.specs.{Changes.HasOnDisk, declared.outgoing.Outgoing.Outgoing, ListStaged.IsNameByte, StagingPaths.dotted, StagingPaths.staging_path}
-use Rattle.station_scan.specs.Publishing.{IsOnDisk}
-use Rattle.station_scan.specs.declared.sending.{Route.Route, Sending.Sending, TwoPaths.TwoPaths}
+use Rattle.{std.specs.Prelude.{◌≡◌, ◌≢◌, ◌⊎◌, ◌<◌, ◌^◌, ℕ, List, [], ◌++◌, map, All, Contains, Some, None}, disk_io.specs.Fixed.AreBytes}
+use Rattle.{disk_io.specs.Disk.{DiskState, Files}, echo_addr.specs.declared.address.Address.Address, echo_links.specs.Links.LinkFile}
+use Rattle.{echo_toss.specs.Counts.link_set, cmd_store.specs.PacketLines.packet_name, model_steps.specs.PacketFiles.PacketFile}
+use Rattle.disk_atomic.specs.{Changes.HasOnDisk, declared.outgoing.Outgoing.Outgoing, ListStaged.IsNameByte, StagingPaths.{dotted, staging_path}}
+use Rattle.station_scan.specs.{Publishing.IsOnDisk, declared.sending.{Route.Route, Sending.Sending, TwoPaths.TwoPaths}}
 
 -- The path of a packet of this name in the folder, and its staging path.
 abbrev pub two_paths : List ℕ → List ℕ → List ℕ → TwoPaths

@@ -1,12 +1,9 @@
 -- The packets of a scan and the commit of a store.
-use Rattle.std.specs.Prelude.{◌≡◌, ◌⊎◌, ℕ, List, length, All, None}
-use Rattle.base_file.specs.Base.{Base}
-use Rattle.disk_io.specs.{Disk.DiskState, Disk.Files, Disk.Honestly, Runs.OneStepOn}
-use Rattle.disk_atomic.specs.{Changes.DifferAt, Trying.WasTried, StagingPaths.staging_path}
-use Rattle.model_steps.specs.PacketFiles.{PacketFile}
-use Rattle.base_store.specs.Store.{Commits, StoreState}
-use Rattle.station_scan.specs.Sending.{HasBytes, IsAtItsPath, IsStagingOfPacket, IsFreeAt, IsStagingGone, IsStagingOn, IsOfPacket, IsWhole, IsWholeAlone}
-use Rattle.station_scan.specs.{Left.IsOfNameOff, Publishing.IsOnDisk, Stops.TellsLeft, declared.scan_error.ScanError.ScanError}
+use Rattle.{std.specs.Prelude.{◌≡◌, ◌⊎◌, ℕ, List, length, All, None}, base_file.specs.Base.Base, disk_io.specs.Disk.{DiskState, Files, Honestly}}
+use Rattle.{disk_io.specs.Runs.OneStepOn, disk_atomic.specs.{Changes.DifferAt, Trying.WasTried, StagingPaths.staging_path}}
+use Rattle.{model_steps.specs.PacketFiles.PacketFile, base_store.specs.Store.{Commits, StoreState}}
+use Rattle.station_scan.specs.{Sending.{HasBytes, IsAtItsPath, IsStagingOfPacket, IsFreeAt, IsStagingGone, IsStagingOn, IsOfPacket, IsWhole, IsWholeAlone}, Left.IsOfNameOff}
+use Rattle.station_scan.specs.{Publishing.IsOnDisk, Stops.TellsLeft, declared.scan_error.ScanError.ScanError}
 
 -- one of these paths, or one of the two paths of a packet
 abbrev pub IsOfThese : (List ℕ → Type 0) → List ℕ → List ℕ → List PacketFile → List ℕ → Type 0

@@ -1,11 +1,10 @@
 -- Why a scan stopped.
-use Rattle.std.specs.Prelude.{◌⊎◌, ◌<◌, ℕ, Result, Ok, Err}
+use Rattle.{std.specs.Prelude.{◌⊎◌, ◌<◌, ℕ, Result, Ok, Err}, cmd_store.specs.declared.command_error.CommandError.{CommandError, TheVariants.{Met, Store}}}
+use Rattle.station_scan.specs.declared.scan_error.ScanError.{ScanError, TheVariants.{Command, Placing, Staying, TooFar}}
+use Rattle.station_scan.specs.declared.publish_error.PublishError.{PublishError, TheVariants.{Base, Reading, Staging, Packets}}
 use Rattle.disk_io.specs.declared.disk_error.DiskError.TheVariants as disk
 use Rattle.disk_atomic.specs.declared.placing_error.PlacingError.TheVariants as placing
 use Rattle.base_store.specs.declared.store_error.StoreError.TheVariants as store
-use Rattle.cmd_store.specs.declared.command_error.CommandError.{CommandError, TheVariants.Met, TheVariants.Store}
-use Rattle.station_scan.specs.declared.scan_error.ScanError.{ScanError, TheVariants.Command, TheVariants.Placing, TheVariants.Staying, TheVariants.TooFar}
-use Rattle.station_scan.specs.declared.publish_error.PublishError.{PublishError, TheVariants.Base, TheVariants.Reading, TheVariants.Staging, TheVariants.Packets}
 
 -- An error of publishing as an error of a scan.
 abbrev pub stop_of : PublishError → ScanError

@@ -1,14 +1,10 @@
 -- Packets in their staging files, and why a pass over the messages stops.
-use Rattle.std.specs.Prelude.{◌≤◌, ℕ, [], All, Result, IsErrOf}
-use Rattle.base_file.specs.Base.{Base}
-use Rattle.disk_io.specs.{Device.Failed, Disk.DiskState, Disk.Honestly}
-use Rattle.disk_atomic.specs.Outgoing.{ArePlaced}
+use Rattle.{std.specs.Prelude.{◌≤◌, ℕ, [], All, Result, IsErrOf}, base_file.specs.Base.Base, disk_io.specs.{Device.Failed, Disk.{DiskState, Honestly}}}
+use Rattle.{disk_atomic.specs.Outgoing.ArePlaced, base_store.specs.Store.StoreState, station_scan.specs.Beneath.IsFullOnWay}
+use Rattle.station_scan.specs.{Publishing.{AreGoing, AreOpen, IsTrial, IsWritten}, declared.passing.PassStop.{PassStop, TheVariants.{Placing, Reading}}}
+use Rattle.station_scan.specs.declared.{publish_error.PublishError.{PublishError, TheVariants.{Packets, Reading as OfReading}}, writing.Batch.Batch}
 use Rattle.disk_atomic.specs.declared.placing_error.PlacingError.TheVariants as placing
-use Rattle.base_store.specs.Store.{StoreState}
 use Rattle.base_store.specs.declared.store_error.StoreError.TheVariants as store
-use Rattle.station_scan.specs.{Beneath.IsFullOnWay, Publishing.AreGoing, Publishing.AreOpen, Publishing.IsTrial, Publishing.IsWritten, declared.passing.PassStop.PassStop}
-use Rattle.station_scan.specs.declared.{passing.PassStop.TheVariants.Placing, passing.PassStop.TheVariants.Reading, publish_error.PublishError.PublishError}
-use Rattle.station_scan.specs.declared.{publish_error.PublishError.TheVariants.Packets, publish_error.PublishError.TheVariants.Reading as OfReading, writing.Batch.Batch}
 
 -- the packets of a batch go to paths of the folder that the store does not own
 abbrev pub IsBatchOff : StoreState → Batch → Type 0

@@ -1,8 +1,7 @@
 //! Packets in staging files come to their end, before a commit.
-ghost use Rattle.std.specs.Prelude.{◌≡◌, true, false, All, IfErr, IfOk, OnOk};
-ghost use Rattle.disk_io.specs.{Disk.Honestly, Runs.HasCause};
-ghost use Rattle.disk_atomic.specs.{Changes.ChangesOnly, Outgoing.IsAtStaging};
-ghost use Rattle.station_scan.specs.{Publishing.{AreStaged, HasStageCause, IsTriedWith, IsWritten, NoneStays, ended_in}, Writing.CanEnd};
+ghost use Rattle.{std.specs.Prelude.{◌≡◌, true, false, All, IfErr, IfOk, OnOk}, disk_io.specs.{Disk.Honestly, Runs.HasCause}, disk_atomic.specs.Changes.ChangesOnly};
+ghost use Rattle.{disk_atomic.specs.Outgoing.IsAtStaging, station_scan.specs.Publishing.{AreStaged, HasStageCause, IsTriedWith, IsWritten, NoneStays, ended_in}};
+ghost use Rattle.station_scan.specs.Writing.{CanEnd};
 
 use crate::pieces::Ends;
 use crate::publish_error::PublishError;

@@ -1,7 +1,5 @@
 //! The pieces of a packet: its header, the copies of a group of messages, its end.
-ghost use Rattle.echo_packet.specs.{Header.header_bytes, Header.word, Message.messages_bytes};
-ghost use Rattle.model_steps.specs.Scanning.{header_to};
-ghost use Rattle.echo_toss.specs.Counts.{copies_out};
+ghost use Rattle.{echo_packet.specs.{Header.{header_bytes, word}, Message.messages_bytes}, model_steps.specs.Scanning.header_to, echo_toss.specs.Counts.copies_out};
 
 use disk_atomic::Pieces;
 use disk_io::Watched;

@@ -1,12 +1,8 @@
 //! The packets of the messages that waited are put under their names.
-ghost use Rattle.std.specs.Prelude.{◌≡◌, ◌≢◌, ◌≤◌, ◌⊎◌, ℕ, List, true, All, IsErrOf, OnOk};
-ghost use Rattle.base_file.specs.Base.{Base};
-ghost use Rattle.disk_io.specs.{Device.Failed, Disk.Honestly};
-ghost use Rattle.cmd_status.specs.Devices.{output_of};
-ghost use Rattle.model_steps.specs.Stamps.{is_stamp};
-ghost use Rattle.station.specs.Beneath.{AreSettledByOwn, IsUsedAt};
-ghost use Rattle.station_scan.specs.Left.{AreFreeLeft, EndsLeft, IsOfNameOff};
-ghost use Rattle.station_scan.specs.{Moved.HasScanCause, Moved.IsMoved, Publishing.KeepsStoreBut, Scanning.IsTouched, Scanning.ScansOnStore};
+ghost use Rattle.{std.specs.Prelude.{◌≡◌, ◌≢◌, ◌≤◌, ◌⊎◌, ℕ, List, true, All, IsErrOf, OnOk}, base_file.specs.Base.Base, disk_io.specs.{Device.Failed, Disk.Honestly}};
+ghost use Rattle.{cmd_status.specs.Devices.output_of, model_steps.specs.Stamps.is_stamp, station.specs.Beneath.{AreSettledByOwn, IsUsedAt}};
+ghost use Rattle.station_scan.specs.{Left.{AreFreeLeft, EndsLeft, IsOfNameOff}, Moved.{HasScanCause, IsMoved}, Publishing.KeepsStoreBut};
+ghost use Rattle.station_scan.specs.Scanning.{IsTouched, ScansOnStore};
 
 use crate::jobs::FinishLeft;
 use crate::outgoing::send_on;

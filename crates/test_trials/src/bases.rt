@@ -1,6 +1,5 @@
-ghost use Rattle.std.specs.Prelude.{◌≡◌, IfOk};
-ghost use Rattle.disk_io.specs.Disk.{Honestly};
-ghost use Rattle.base_log.specs.{AtRest.IsAtRest, AtRest.IsStaged, Names.AreNames, Names.folder_of, Opening.AreAlone};
+ghost use Rattle.{std.specs.Prelude.{◌≡◌, IfOk}, disk_io.specs.Disk.Honestly, base_log.specs.{AtRest.{IsAtRest, IsStaged}, Names.{AreNames, folder_of}}};
+ghost use Rattle.base_log.specs.Opening.{AreAlone};
 
 use base_log::{
     CommitRecord, End, FolderError, FolderIdentity, GrowingFile, Names, commit, judge, open,

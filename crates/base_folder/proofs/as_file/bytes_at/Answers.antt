@@ -1,6 +1,4 @@
-use Rattle.std.{proofs.Common.{subst, arith}, specs.Result.IfErr}
-use Rattle.echo_filed.specs.Stored.{Stored}
-use Rattle.base_file.proofs.SavedMessages.{stored_here}
+use Rattle.{std.{proofs.Common.{subst, arith}, specs.Result.IfErr}, echo_filed.specs.Stored.Stored, base_file.proofs.SavedMessages.stored_here}
 use Rattle.base_folder.specs.AsFile.{IsTooLong}
 use Rattle.base_folder.proofs.as_file.bytes_at.Goals as goal
 

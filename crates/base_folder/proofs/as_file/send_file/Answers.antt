@@ -1,9 +1,6 @@
-use Rattle.std.proofs.Common.{◌<◌, ◌∙◌, ℕ, length, ap, subst, arith}
-use Rattle.cmd_status.proofs.Lines.{none_begun}
-use Rattle.base_file.specs.BaseFile.{saved_bytes, stored_at}
-use Rattle.echo_filed.specs.{Stored.stored_bytes, declared.stored.Version.TheVariants.Second}
-use Rattle.base_folder.{specs.AsFile.{IsMessageFault, IsSendFault}, proofs.{Lookings.err_is, Readings.{looks_none, looks_on, read_more}}}
-use Rattle.base_folder_store.proofs.Causes.{at_error}
+use Rattle.{std.proofs.Common.{◌<◌, ◌∙◌, ℕ, length, ap, subst, arith}, cmd_status.proofs.Lines.none_begun, base_file.specs.BaseFile.{saved_bytes, stored_at}}
+use Rattle.{echo_filed.specs.{Stored.stored_bytes, declared.stored.Version.TheVariants.Second}, base_folder.specs.AsFile.{IsMessageFault, IsSendFault}}
+use Rattle.{base_folder.proofs.{Lookings.err_is, Readings.{looks_none, looks_on, read_more}}, base_folder_store.proofs.Causes.at_error}
 use Rattle.base_folder.proofs.Files.{file_fault, file_sent, head_begun, head_sent, message_begun, message_sent, message_there, messages_begun, there, too_great}
 use Rattle.base_folder.specs.declared.send_error.SendError.TheVariants as unsent
 use Rattle.base_folder.proofs.as_file.send_file.Goals as goal

@@ -1,6 +1,5 @@
-use Rattle.std.{proofs.Common.{ℕ, ◌≡◌, ◌≤◌, ◌++◌, length, take}, specs.Io.KnownBytes.Appends}
-use Rattle.base_file.{specs.{Base.Base, BaseFile.head_bytes}, proofs.SavedMessages.stored_all}
-use Rattle.echo_filed.specs.declared.stored.Version.TheVariants.{Second}
+use Rattle.{std.{proofs.Common.{ℕ, ◌≡◌, ◌≤◌, ◌++◌, length, take}, specs.Io.KnownBytes.Appends}, base_file.specs.{Base.Base, BaseFile.head_bytes}}
+use Rattle.{base_file.proofs.SavedMessages.stored_all, echo_filed.specs.declared.stored.Version.TheVariants.Second}
 use Rattle.base_folder.specs.Source.{AreLegibleTo, LooksAt}
 use Rattle.base_folder.proofs.as_file.send_file.Given as goal
 

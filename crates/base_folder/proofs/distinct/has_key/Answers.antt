@@ -1,5 +1,4 @@
-use Rattle.std.proofs.Common.{option_copied, arith}
-use Rattle.echo_filed.proofs.DerivedKeys.{derived_decides}
+use Rattle.{std.proofs.Common.{option_copied, arith}, echo_filed.proofs.DerivedKeys.derived_decides}
 use Rattle.base_folder.proofs.distinct.has_key.Goals as goal
 
 pub returns : goal.returns

@@ -1,5 +1,4 @@
-use Rattle.std.{proofs.Common.{◌∙◌, ◌<◌, Option, sym, ap, arith}, specs.Prelude.option_map}
-use Rattle.echo_filed.specs.Filed.{Filed, key_of}
+use Rattle.{std.{proofs.Common.{◌∙◌, ◌<◌, Option, sym, ap, arith}, specs.Prelude.option_map}, echo_filed.specs.Filed.{Filed, key_of}}
 use Rattle.base_folder.proofs.Distincts.{HasKeyAt, one_key}
 use Rattle.base_folder.proofs.distinct.judge_earlier.Goals as goal
 

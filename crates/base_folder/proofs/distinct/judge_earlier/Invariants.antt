@@ -1,5 +1,4 @@
-use Rattle.std.proofs.Common.{◌≤◌, ℕ}
-use Rattle.base_folder.specs.Source.{LooksAt}
+use Rattle.{std.proofs.Common.{◌≤◌, ℕ}, base_folder.specs.Source.LooksAt}
 use Rattle.base_folder.proofs.distinct.judge_earlier.Given as goal
 
 abbrev pub invariant-earlier : goal.invariant-earlier

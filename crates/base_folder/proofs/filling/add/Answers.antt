@@ -1,9 +1,7 @@
-use Rattle.std.proofs.{Common.{◌+◌, List, ℕ, refl, sym, ap, subst, ◌∙◌, arith}, lemmas.Result.on_ok_weaker}
-use Rattle.base_store.specs.Keys.{digested_key}
-use Rattle.echo_filed.specs.{Filed.key_of, declared.key.Key.Key}
-use Rattle.base_file.specs.Alone.{IsStoredAlone}
-use Rattle.base_folder_store.{specs.{Held.digest_by, Opened.held_by}, proofs.{Causes.{done_both, handed_on}, Seen.filed_more}}
-use Rattle.base_folder.{specs.Filled.HoldsMany, proofs.Fillings.{adds_none, many_more}}
+use Rattle.{std.proofs.{Common.{◌+◌, List, ℕ, refl, sym, ap, subst, ◌∙◌, arith}, lemmas.Result.on_ok_weaker}, base_store.specs.Keys.digested_key}
+use Rattle.{echo_filed.specs.{Filed.key_of, declared.key.Key.Key}, base_file.specs.Alone.IsStoredAlone, base_folder_store.specs.Held.digest_by}
+use Rattle.{base_folder_store.{specs.Opened.held_by, proofs.{Causes.{done_both, handed_on}, Seen.filed_more}}, base_folder.specs.Filled.HoldsMany}
+use Rattle.base_folder.proofs.Fillings.{adds_none, many_more}
 use Rattle.base_folder.proofs.filling.add.Goals as goal
 
 pub returns-in_err-bytes-clause-kept : goal.returns-in_err-bytes-clause-kept

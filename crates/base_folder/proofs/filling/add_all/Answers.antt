@@ -1,7 +1,6 @@
-use Rattle.std.proofs.{Common.◌≡◌, Common.◌-◌, Common.Ok, Common.arith, lemmas.Result.on_ok_weaker}
-use Rattle.base_file.specs.Base.{Base}
-use Rattle.base_folder_store.{specs.Opened.held_by, proofs.Causes.handed_on}
-use Rattle.base_folder.{specs.Filled.{FillsOnly, HoldsFront, ShowsBase}, proofs.filling.add_all.Goals.After-add_from-2}
+use Rattle.{std.proofs.{Common.{◌≡◌, ◌-◌, Ok, arith}, lemmas.Result.on_ok_weaker}, base_file.specs.Base.Base, base_folder_store.specs.Opened.held_by}
+use Rattle.{base_folder_store.proofs.Causes.handed_on, base_folder.specs.Filled.{FillsOnly, HoldsFront, ShowsBase}}
+use Rattle.base_folder.proofs.filling.add_all.Goals.{After-add_from-2}
 use Rattle.base_folder.proofs.Fillings.{adds_end, cause_since, fills_end, fills_fewer, fills_twice, front_all, front_scanned, full_at, reads_twice, shows_before, shows_later}
 use Rattle.base_folder.proofs.filling.add_all.Given as given
 use Rattle.base_folder.proofs.filling.add_all.Goals as goal

@@ -1,6 +1,5 @@
-use Rattle.std.proofs.Common.{◌≡◌, ◌+◌, ◌-◌, ℕ, Result, Ok, Err, inl, refl, subst, arith}
-use Rattle.base_folder_store.{specs.Opened.held_by, proofs.Causes.handed_on}
-use Rattle.base_folder.specs.{Filled.FillsOnly, Filled.HasFillCause, Filled.HoldsFront, declared.fill_error.FillError.FillError}
+use Rattle.{std.proofs.Common.{◌≡◌, ◌+◌, ◌-◌, ℕ, Result, Ok, Err, inl, refl, subst, arith}, base_folder_store.{specs.Opened.held_by, proofs.Causes.handed_on}}
+use Rattle.base_folder.specs.{Filled.{FillsOnly, HasFillCause, HoldsFront}, declared.fill_error.FillError.FillError}
 use Rattle.base_folder.proofs.Fillings.{by_error, cause_since, fills_fewer, fills_none, fills_twice, reads_none, reads_twice, shows_before, shows_later}
 use Rattle.base_folder.proofs.filling.add_from.Goals as goal
 

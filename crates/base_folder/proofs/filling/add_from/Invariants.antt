@@ -1,7 +1,4 @@
-use Rattle.std.proofs.Common.{◌≤◌, ◌-◌, ℕ, Ok}
-use Rattle.disk_io.specs.Disk.{Honestly}
-use Rattle.base_file.specs.Base.{Base}
-use Rattle.base_folder_store.specs.Opened.{held_by}
+use Rattle.{std.proofs.Common.{◌≤◌, ◌-◌, ℕ, Ok}, disk_io.specs.Disk.Honestly, base_file.specs.Base.Base, base_folder_store.specs.Opened.held_by}
 use Rattle.base_folder.specs.Filled.{FillsOnly, HoldsFront, ReadsFor, ShowsBase}
 use Rattle.base_folder.proofs.filling.add_from.Given as goal
 

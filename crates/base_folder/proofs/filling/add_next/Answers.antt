@@ -1,5 +1,4 @@
-use Rattle.std.{proofs.Common.{◌≡◌, ◌∙◌, Some, sym, arith}, specs.Prelude.slice_get}
-use Rattle.base_folder_store.specs.Opened.{held_by}
+use Rattle.{std.{proofs.Common.{◌≡◌, ◌∙◌, Some, sym, arith}, specs.Prelude.slice_get}, base_folder_store.specs.Opened.held_by}
 use Rattle.base_folder.specs.Filled.{unfilled_cause}
 use Rattle.base_folder.proofs.Fillings.{cause_stored, fills_failed, fills_unread, front_one, many_stored, none_missing, reads_fault, reads_folder}
 use Rattle.base_folder.proofs.filling.add_next.Goals as goal

@@ -1,13 +1,11 @@
-use Rattle.std.proofs.Common.{◌≡◌, ◌∙◌, Err, List, ℕ, OnOk, ap, arith, inr, length, refl, subst}
-use Rattle.disk_io.specs.Disk.{Files}
-use Rattle.base_file.specs.Base.{Base}
+use Rattle.{std.proofs.Common.{◌≡◌, ◌∙◌, Err, List, ℕ, OnOk, ap, arith, inr, length, refl, subst}, disk_io.specs.Disk.Files, base_file.specs.Base.Base}
 use Rattle.base_log.{specs.declared.log.{CommitRecord.CommitRecord, FolderIdentity.FolderIdentity}, proofs.Keeping.outside_twice}
 use Rattle.base_folder_store.{specs.{Held.{HoldsBase, RepresentsBase}, Opened.{committed_by, held_by, path_of}}, proofs.{Causes.on_ok_none, Seen.many_messages}}
 use Rattle.base_folder.specs.Filled.{FillsAllOrNothing, HasMark, IsKept, IsRecordedIn, IsUncommitted, IsUnfilled, RepresentsMany, RepresentsNoneOr, RepresentsNoneOrWasLeft, drawn_mark, no_messages}
-use Rattle.base_folder.specs.declared.fill_error.FillError.TheVariants as unfilled
 use Rattle.base_folder.proofs.Fillings.{cause_opened, cause_since, fill_since, full_at, never_many, never_used, no_keys, open_is_kept, opened_run, reads_as, reads_folder, uncommitted_opened}
-use Rattle.base_folder.proofs.{Lookings.err_is, Openings.claimed_committed, Openings.claimed_named, Openings.claimed_opened, Openings.claimed_same, Openings.one_recorded, Readings.looks_none}
+use Rattle.base_folder.proofs.{Lookings.err_is, Openings.{claimed_committed, claimed_named, claimed_opened, claimed_same, one_recorded}, Readings.looks_none}
 use Rattle.base_folder.proofs.filling.fill.Goals.{After-count, After-fill_opened}
+use Rattle.base_folder.specs.declared.fill_error.FillError.TheVariants as unfilled
 use Rattle.base_folder.proofs.filling.fill.Given as given
 use Rattle.base_folder.proofs.filling.fill.Goals as goal
 

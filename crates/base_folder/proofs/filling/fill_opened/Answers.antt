@@ -1,13 +1,11 @@
-use Rattle.std.{proofs.Common.{◌≡◌, ◌+◌, ◌∙◌, ℕ, Err, ap, inr, refl, sym, subst, arith}, specs.Prelude.IsErrOf}
-use Rattle.disk_io.specs.{Disk.Files, Runs.LeavesOnly}
-use Rattle.base_log.specs.{Standing.{BaseBytes, Represents}, declared.log.CommitRecord.CommitRecord}
-use Rattle.base_folder_store.specs.{Calls.CommitsOnly, Held.HoldsBase, Held.RepresentsBase, Opened.committed_by, Opened.held_by, Opened.path_of}
-use Rattle.base_store.specs.declared.store_error.StoreError.TheVariants as store
-use Rattle.base_folder_store.proofs.{Causes.handed_on, Causes.on_ok_none, Runs.run_to_commit, Runs.run_twice}
+use Rattle.{std.{proofs.Common.{◌≡◌, ◌+◌, ◌∙◌, ℕ, Err, ap, inr, refl, sym, subst, arith}, specs.Prelude.IsErrOf}, disk_io.specs.{Disk.Files, Runs.LeavesOnly}}
+use Rattle.{base_log.specs.{Standing.{BaseBytes, Represents}, declared.log.CommitRecord.CommitRecord}, base_folder_store.specs.Calls.CommitsOnly}
+use Rattle.base_folder_store.{specs.{Held.{HoldsBase, RepresentsBase}, Opened.{committed_by, held_by, path_of}}, proofs.Causes.{handed_on, on_ok_none}}
+use Rattle.{base_folder_store.proofs.Runs.{run_to_commit, run_twice}, base_folder.proofs.{Lookings.err_is, filling.fill_opened.Goals.After-commit}}
 use Rattle.base_folder.specs.Filled.{HasMark, HoldsMany, IsUncommitted, RepresentsMany, RepresentsNoneOr, no_messages, unfilled_cause}
-use Rattle.base_folder.specs.declared.fill_error.FillError.TheVariants as unfilled
 use Rattle.base_folder.proofs.Fillings.{cause_since, cause_stored, fills_before, fills_run, filled_is_kept, many_none, many_stored, reads_folder, uncommitted_added, uncommitted_stored}
-use Rattle.base_folder.proofs.{Lookings.err_is, filling.fill_opened.Goals.After-commit}
+use Rattle.base_store.specs.declared.store_error.StoreError.TheVariants as store
+use Rattle.base_folder.specs.declared.fill_error.FillError.TheVariants as unfilled
 use Rattle.base_folder.proofs.filling.fill_opened.Given as given
 use Rattle.base_folder.proofs.filling.fill_opened.Goals as goal
 

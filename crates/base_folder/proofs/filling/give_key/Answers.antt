@@ -1,5 +1,4 @@
-use Rattle.std.proofs.Common.{arith}
-use Rattle.base_folder_store.proofs.Claimed.{IsClaim, by_claim}
+use Rattle.{std.proofs.Common.arith, base_folder_store.proofs.Claimed.{IsClaim, by_claim}}
 use Rattle.base_folder.proofs.filling.give_key.Goals as goal
 
 pub returns-clause-only : goal.returns-clause-only

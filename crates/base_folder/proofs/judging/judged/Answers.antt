@@ -1,6 +1,4 @@
-use Rattle.std.proofs.Common.{◌≡◌, ◌∙◌, ap, sym, subst, arith}
-use Rattle.disk_io.specs.Disk.{Files, bytes_in}
-use Rattle.base_log.specs.Names.{log_of}
+use Rattle.{std.proofs.Common.{◌≡◌, ◌∙◌, ap, sym, subst, arith}, disk_io.specs.Disk.{Files, bytes_in}, base_log.specs.Names.log_of}
 use Rattle.base_folder.{specs.OpenError.IsWrong, proofs.{Lookings.err_is, Openings.stood_before}}
 use Rattle.base_folder.proofs.judging.judged.Goals as goal
 

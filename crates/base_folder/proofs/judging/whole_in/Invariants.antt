@@ -1,5 +1,4 @@
-use Rattle.std.proofs.Common.{◌≡◌, ◌≤◌, ◌<◌, ℕ, List, length}
-use Rattle.base_store.specs.Keys.{place_behind}
+use Rattle.{std.proofs.Common.{◌≡◌, ◌≤◌, ◌<◌, ℕ, List, length}, base_store.specs.Keys.place_behind}
 use Rattle.base_folder.proofs.judging.whole_in.Given as goal
 
 abbrev pub invariant-messages : goal.invariant-messages

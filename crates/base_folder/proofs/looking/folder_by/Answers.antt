@@ -1,10 +1,7 @@
-use Rattle.std.proofs.Common.{◌≡◌, ◌∙◌, List, ℕ, ap, refl, arith}
-use Rattle.disk_io.specs.{Disk.DiskState, Runs.ChangesNothing}
-use Rattle.base_log.specs.{Standing.base_at, declared.log.End.End, declared.log.Log.Log}
-use Rattle.base_store.proofs.Runs.{quiet_disk}
-use Rattle.base_folder_store.{specs.{Opened.{IsFresh, held_by}, declared.folder.Folder.Folder}, proofs.{Bases.opened_bytes, Legible.held_quiet}}
-use Rattle.base_folder.specs.Looked.{IsUnseen}
-use Rattle.base_folder.proofs.{Lookings.err_is, Lookings.looked_at, Lookings.unseen_by, Lookings.unseen_message, Openings.base_is, Readings.looked_quiet, Wrongs.sound_by}
+use Rattle.{std.proofs.Common.{◌≡◌, ◌∙◌, List, ℕ, ap, refl, arith}, disk_io.specs.{Disk.DiskState, Runs.ChangesNothing}, base_log.specs.Standing.base_at}
+use Rattle.{base_log.specs.declared.log.{End.End, Log.Log}, base_store.proofs.Runs.quiet_disk, base_folder_store.specs.Opened.{IsFresh, held_by}}
+use Rattle.{base_folder_store.{specs.declared.folder.Folder.Folder, proofs.{Bases.opened_bytes, Legible.held_quiet}}, base_folder.specs.Looked.IsUnseen}
+use Rattle.base_folder.proofs.{Lookings.{err_is, looked_at, unseen_by, unseen_message}, Openings.base_is, Readings.looked_quiet, Wrongs.sound_by}
 use Rattle.base_folder.proofs.looking.folder_by.Goals as goal
 
 by_log : (path : List ℕ) (d e : DiskState) (log : Log) (f : Folder) → ChangesNothing d e → IsFresh path f → f.end ≡ log.end → held_by e f ≡ base_at d path log.end.recorded

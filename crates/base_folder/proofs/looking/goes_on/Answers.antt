@@ -1,6 +1,4 @@
-use Rattle.std.proofs.Common.{ap, arith}
-use Rattle.base_log.specs.declared.log.End.{End}
-use Rattle.base_folder.proofs.Lookings.{none_between, same_end}
+use Rattle.{std.proofs.Common.{ap, arith}, base_log.specs.declared.log.End.End, base_folder.proofs.Lookings.{none_between, same_end}}
 use Rattle.base_folder.proofs.looking.goes_on.Goals as goal
 
 pub returns-then-first-last-clause-same : goal.returns-then-first-last-clause-same

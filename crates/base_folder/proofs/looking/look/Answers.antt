@@ -1,8 +1,6 @@
-use Rattle.std.{proofs.Common.{◌≡◌, Option, sym, subst, arith}, specs.Prelude.IfSome}
-use Rattle.disk_io.specs.Disk.{Files}
-use Rattle.base_log.specs.Standing.{Represents}
-use Rattle.base_folder_store.specs.Opened.{held_by}
-use Rattle.base_folder.{specs.{Looked.IsUnseen, Wrong.IsSound, declared.looking.LookedFolder.LookedFolder}, proofs.Lookings.err_is}
+use Rattle.{std.{proofs.Common.{◌≡◌, Option, sym, subst, arith}, specs.Prelude.IfSome}, disk_io.specs.Disk.Files, base_log.specs.Standing.Represents}
+use Rattle.{base_folder_store.specs.Opened.held_by, base_folder.specs.{Looked.IsUnseen, Wrong.IsSound, declared.looking.LookedFolder.LookedFolder}}
+use Rattle.base_folder.proofs.Lookings.{err_is}
 use Rattle.base_folder.proofs.looking.look.Goals as goal
 
 pub returns-in_err-looked-clause-wrong : goal.returns-in_err-looked-clause-wrong

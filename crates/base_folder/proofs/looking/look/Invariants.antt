@@ -1,5 +1,4 @@
-use Rattle.std.proofs.Common.{◌≡◌, ◌≤◌}
-use Rattle.disk_io.specs.{Disk.Honestly, Runs.ChangesNothing}
+use Rattle.{std.proofs.Common.{◌≡◌, ◌≤◌}, disk_io.specs.{Disk.Honestly, Runs.ChangesNothing}}
 use Rattle.base_folder.proofs.looking.look.Given as goal
 
 abbrev pub invariant-tries : goal.invariant-tries

@@ -1,8 +1,6 @@
-use Rattle.std.proofs.Common.{◌≡◌, ◌∙◌, subst, arith}
-use Rattle.disk_io.specs.Disk.{Files}
-use Rattle.base_log.specs.Standing.{base_at}
-use Rattle.base_folder_store.{specs.Opened.held_by, proofs.Legible.held_quiet}
-use Rattle.base_folder.{specs.{Looked.IsUnseen, Wrong.IsSound}, proofs.{Lookings.{at_err, at_ok, err_is}, Openings.base_is, Readings.looked_quiet}}
+use Rattle.{std.proofs.Common.{◌≡◌, ◌∙◌, subst, arith}, disk_io.specs.Disk.Files, base_log.specs.Standing.base_at, base_folder_store.specs.Opened.held_by}
+use Rattle.{base_folder_store.proofs.Legible.held_quiet, base_folder.{specs.{Looked.IsUnseen, Wrong.IsSound}, proofs.Lookings.{at_err, at_ok, err_is}}}
+use Rattle.base_folder.proofs.{Openings.base_is, Readings.looked_quiet}
 use Rattle.base_folder.proofs.looking.look_once.Goals as goal
 
 pub returns-in_err-folder-clause-wrong : goal.returns-in_err-folder-clause-wrong

@@ -1,6 +1,5 @@
-use Rattle.std.proofs.Common.{◌∙◌, ap, sym, arith}
-use Rattle.base_log.specs.declared.log.End.{End}
-use Rattle.base_folder.proofs.{Openings.log_since, Openings.looked_only, Openings.opened_holds, Openings.opened_only, Wrongs.sound_by}
+use Rattle.{std.proofs.Common.{◌∙◌, ap, sym}, base_log.specs.declared.log.End.End}
+use Rattle.base_folder.proofs.{Openings.{log_since, looked_only, opened_holds, opened_only}, Wrongs.sound_by}
 use Rattle.base_folder.proofs.opening.open_base.Goals as goal
 
 pub open-requires-clause-alone : goal.open-requires-clause-alone

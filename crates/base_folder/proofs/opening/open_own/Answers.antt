@@ -1,7 +1,5 @@
-use Rattle.std.proofs.Common.{refl, arith}
-use Rattle.base_folder_store.proofs.Causes.{on_ok_none}
+use Rattle.{std.proofs.Common.{refl, arith}, base_folder_store.proofs.Causes.on_ok_none, base_folder.proofs.{Lookings.err_is, Wrongs.sound_by}}
 use Rattle.base_folder.proofs.Openings.{claimed_committed, claimed_named, claimed_opened, claimed_same, log_since, looked_only, opened_holds, opened_only, other_cause, other_left, other_recorded, recorded_other}
-use Rattle.base_folder.proofs.{Lookings.err_is, Wrongs.sound_by}
 use Rattle.base_folder.proofs.opening.open_own.Goals as goal
 
 pub open-requires-clause-alone : goal.open-requires-clause-alone

@@ -1,6 +1,4 @@
-use Rattle.std.proofs.Common.{sym, subst}
-use Rattle.base_log.specs.Standing.{BaseBytes}
-use Rattle.base_folder_store.specs.Held.{HoldsBase}
+use Rattle.{std.proofs.Common.{sym, subst}, base_log.specs.Standing.BaseBytes, base_folder_store.specs.Held.HoldsBase}
 use Rattle.base_folder.proofs.readers.read_folder.Goals as goal
 
 pub returns-clause-holds : goal.returns-clause-holds

@@ -1,5 +1,4 @@
-use Rattle.std.proofs.Common.{arith}
-use Rattle.base_folder.proofs.Lookings.{unvouched_by}
+use Rattle.{std.proofs.Common.arith, base_folder.proofs.Lookings.unvouched_by}
 use Rattle.base_folder.proofs.reading.judge_message.Goals as goal
 
 pub returns-in-Err-clause-damaged : goal.returns-in-Err-clause-damaged

@@ -1,8 +1,6 @@
-use Rattle.std.proofs.{Common.◌≡◌, Common.◌<◌, Common.◌≤◌, Common.⊎_elim, Common.ℕ, Common.arith, Common.subst, Common.sym, lemmas.Bool.cases_lt}
-use Rattle.base_store.proofs.Runs.{quiet_disk}
-use Rattle.disk_io.proofs.Moments.{nothing_twice}
-use Rattle.base_folder_store.{specs.{Opened.held_by, Vouched.IsVouched}, proofs.Legible.held_quiet}
-use Rattle.base_folder.proofs.{Lookings.err_is, Readings.looked_quiet, Readings.parts_quiet, Readings.not_behind, Readings.not_past, Readings.vouched_quiet}
+use Rattle.{std.proofs.{Common.{◌≡◌, ◌<◌, ◌≤◌, ⊎_elim, ℕ, arith, subst, sym}, lemmas.Bool.cases_lt}, base_store.proofs.Runs.quiet_disk}
+use Rattle.{disk_io.proofs.Moments.nothing_twice, base_folder_store.{specs.{Opened.held_by, Vouched.IsVouched}, proofs.Legible.held_quiet}}
+use Rattle.base_folder.proofs.{Lookings.err_is, Readings.{looked_quiet, parts_quiet, not_behind, not_past, vouched_quiet}}
 use Rattle.base_folder.proofs.reading.judge_messages.Goals as goal
 
 pub messages-init : goal.messages-init

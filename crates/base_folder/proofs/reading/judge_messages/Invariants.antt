@@ -1,6 +1,5 @@
-use Rattle.std.proofs.Common.{◌≤◌, ◌<◌, ℕ}
-use Rattle.disk_io.specs.{Disk.Honestly, Runs.ChangesNothing}
-use Rattle.base_folder_store.specs.{Ahead.HasParts, Opened.held_by, Vouched.IsVouched}
+use Rattle.{std.proofs.Common.{◌≤◌, ◌<◌, ℕ}, disk_io.specs.{Disk.Honestly, Runs.ChangesNothing}, base_folder_store.specs.{Ahead.HasParts, Opened.held_by}}
+use Rattle.base_folder_store.specs.Vouched.{IsVouched}
 use Rattle.base_folder.proofs.reading.judge_messages.Given as goal
 
 abbrev pub invariant-messages : goal.invariant-messages

@@ -1,5 +1,4 @@
-use Rattle.std.{proofs.Common.{◌∙◌, ap, Global, List, take_all, Vec, ℕ}, specs.List.list_any}
-use Rattle.echo_links.specs.Links.{has_area}
+use Rattle.{std.{proofs.Common.{◌∙◌, ap, Global, List, take_all, Vec, ℕ}, specs.List.list_any}, echo_links.specs.Links.has_area}
 use Rattle.cmd_check.proofs.AreaTags.{all_tags_if_ok}
 use Rattle.cmd_check.proofs.area_tags.area_tags.Goals as goal
 

@@ -1,7 +1,5 @@
 -- The tags of the files so far are added.
-use Rattle.std.{proofs.Common.{◌≡◌, Global, List, take, Vec, ℕ}, specs.List.list_any}
-use Rattle.echo_links.specs.Links.{has_area}
-use Rattle.cmd_check.specs.AreaTags.{has_tag}
+use Rattle.{std.{proofs.Common.{◌≡◌, Global, List, take, Vec, ℕ}, specs.List.list_any}, echo_links.specs.Links.has_area, cmd_check.specs.AreaTags.has_tag}
 use Rattle.cmd_check.proofs.area_tags.area_tags.Given as goal
 
 abbrev pub invariant-files : goal.invariant-files

@@ -1,6 +1,5 @@
 -- The tags of the areas so far are added.
-use Rattle.std.proofs.Common.{Global, List, take, Vec, ℕ}
-use Rattle.cmd_check.proofs.AreaTags.{HaveTags}
+use Rattle.{std.proofs.Common.{Global, List, take, Vec, ℕ}, cmd_check.proofs.AreaTags.HaveTags}
 use Rattle.cmd_check.proofs.area_tags.note_areas.Given as goal
 
 abbrev pub invariant-areas : goal.invariant-areas

@@ -1,5 +1,4 @@
-use Rattle.std.proofs.Common.{◌∙◌, ap, Global, List, Vec, ℕ}
-use Rattle.cmd_check.{specs.AreaTags.has_tag, proofs.AreaTags.tag_inserted}
+use Rattle.{std.proofs.Common.{◌∙◌, ap, Global, List, Vec, ℕ}, cmd_check.{specs.AreaTags.has_tag, proofs.AreaTags.tag_inserted}}
 use Rattle.cmd_check.proofs.area_tags.note_tag.Goals as goal
 
 pub returns : goal.returns

@@ -1,5 +1,4 @@
-use Rattle.std.specs.Option.{option_copied}
-use Rattle.cmd_check.proofs.Checks.{headline}
+use Rattle.{std.specs.Option.option_copied, cmd_check.proofs.Checks.headline}
 use Rattle.cmd_check.proofs.checking.check.Goals as goal
 
 pub returns-clause-headline : goal.returns-clause-headline

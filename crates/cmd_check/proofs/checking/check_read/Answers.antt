@@ -1,5 +1,4 @@
-use Rattle.std.proofs.{Common.inl, Common.refl, lemmas.Result.err_from_is_err_and}
-use Rattle.cmd_check.{specs.Checking.verdict_status, proofs.Checks.was_checked}
+use Rattle.{std.proofs.{Common.{inl, refl}, lemmas.Result.err_from_is_err_and}, cmd_check.{specs.Checking.verdict_status, proofs.Checks.was_checked}}
 use Rattle.cmd_check.proofs.checking.check_read.Goals as goal
 
 pub returns-in_err-print_rest : goal.returns-in_err-print_rest

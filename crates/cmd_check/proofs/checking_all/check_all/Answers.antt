@@ -1,5 +1,4 @@
-use Rattle.std.specs.Option.{option_copied}
-use Rattle.cmd_check.proofs.AllAreas.{headline_of_all}
+use Rattle.{std.specs.Option.option_copied, cmd_check.proofs.AllAreas.headline_of_all}
 use Rattle.cmd_check.proofs.checking_all.check_all.Goals as goal
 
 pub returns-clause-headline : goal.returns-clause-headline

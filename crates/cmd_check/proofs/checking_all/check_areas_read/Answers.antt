@@ -1,7 +1,6 @@
 use Rattle.std.proofs.{Common.{◌∙◌, Global, inl, List, map, refl, subst, sym, Vec, ℕ}, lemmas.{List.length-map, Result.err_from_is_err_and}}
-use Rattle.std.specs.Option.{option_copied}
-use Rattle.cmd_print.specs.Pushed.{Pushes}
-use Rattle.cmd_check.{specs.CheckingAll.{AreAreasChecked, verdicts_status}, proofs.AllAreas.were_checked}
+use Rattle.{std.specs.Option.option_copied, cmd_print.specs.Pushed.Pushes, cmd_check.specs.CheckingAll.{AreAreasChecked, verdicts_status}}
+use Rattle.cmd_check.proofs.AllAreas.{were_checked}
 use Rattle.cmd_check.proofs.checking_all.check_areas_read.Goals as goal
 
 pub returns-in_err-print_rest : goal.returns-in_err-print_rest

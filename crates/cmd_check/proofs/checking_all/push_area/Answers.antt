@@ -1,5 +1,4 @@
-use Rattle.std.specs.Option.{option_copied}
-use Rattle.cmd_check.proofs.AllAreas.{area_checked}
+use Rattle.{std.specs.Option.option_copied, cmd_check.proofs.AllAreas.area_checked}
 use Rattle.cmd_check.proofs.checking_all.push_area.Goals as goal
 
 pub returns-clause-lines : goal.returns-clause-lines

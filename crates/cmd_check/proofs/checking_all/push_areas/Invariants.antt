@@ -1,7 +1,5 @@
 -- The lines of the areas so far are added.
-use Rattle.std.{proofs.Common.{◌≤◌, map, take}, specs.Option.option_copied}
-use Rattle.cmd_print.specs.Pushed.{Pushes}
-use Rattle.cmd_check.specs.CheckingAll.{AreAreasChecked}
+use Rattle.{std.{proofs.Common.{◌≤◌, map, take}, specs.Option.option_copied}, cmd_print.specs.Pushed.Pushes, cmd_check.specs.CheckingAll.AreAreasChecked}
 use Rattle.cmd_check.proofs.checking_all.push_areas.Given as goal
 
 abbrev pub invariant-tags : goal.invariant-tags

@@ -1,6 +1,5 @@
 -- The lines of the faults so far are added.
-use Rattle.std.{proofs.Common.{◌≡◌, ◌++◌, take}, specs.List.flat_map}
-use Rattle.cmd_check.specs.Further.{also_line}
+use Rattle.{std.{proofs.Common.{◌≡◌, ◌++◌, take}, specs.List.flat_map}, cmd_check.specs.Further.also_line}
 use Rattle.cmd_check.proofs.further_text.push_each.Given as goal
 
 abbrev pub invariant-faults : goal.invariant-faults

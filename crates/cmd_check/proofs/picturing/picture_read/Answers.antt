@@ -1,6 +1,5 @@
-use Rattle.std.proofs.Common.{None, refl}
-use Rattle.cmd_status.specs.{Devices.output_of, Inputs.IsFirstFaultGiven}
-use Rattle.cmd_check.proofs.{Pictures.was_pictured, Printing.printed_as}
+use Rattle.{std.proofs.Common.{None, refl}, cmd_status.specs.{Devices.output_of, Inputs.IsFirstFaultGiven}, cmd_check.proofs.Pictures.was_pictured}
+use Rattle.cmd_check.proofs.Printing.{printed_as}
 use Rattle.cmd_check.proofs.picturing.picture_read.Goals as goal
 
 pub returns : goal.returns

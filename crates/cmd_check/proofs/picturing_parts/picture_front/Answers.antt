@@ -1,5 +1,4 @@
-use Rattle.std.proofs.Common.{arith}
-use Rattle.cmd_check.proofs.FilledParts.{front_drawn}
+use Rattle.{std.proofs.Common.arith, cmd_check.proofs.FilledParts.front_drawn}
 use Rattle.cmd_check.proofs.picturing_parts.picture_front.Goals as goal
 
 pub returns : goal.returns

@@ -1,7 +1,6 @@
-use Rattle.std.proofs.{Common.◌≡◌, Common.List, Common.ℕ, Common.subst, Common.arith, lemmas.Result.err_from_is_err_and}
-use Rattle.echo_links.specs.Links.{upper}
-use Rattle.cmd_status.specs.Devices.{output_of}
-use Rattle.cmd_check.{specs.{JudgedAreas.is_alone, PicturingParts.{IsFaultWithout, IsLeftDrawn, IsPicturedWithout}}, proofs.Printing.printed_as}
+use Rattle.{std.proofs.{Common.{◌≡◌, List, ℕ, subst, arith}, lemmas.Result.err_from_is_err_and}, echo_links.specs.Links.upper}
+use Rattle.{cmd_status.specs.Devices.output_of, cmd_check.specs.{JudgedAreas.is_alone, PicturingParts.{IsFaultWithout, IsLeftDrawn, IsPicturedWithout}}}
+use Rattle.cmd_check.proofs.Printing.{printed_as}
 use Rattle.cmd_check.proofs.picturing_parts.picture_remaining.Goals as goal
 
 pub returns-in_err-left : goal.returns-in_err-left

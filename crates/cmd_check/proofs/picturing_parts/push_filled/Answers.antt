@@ -1,5 +1,4 @@
-use Rattle.std.proofs.Common.{arith, refl}
-use Rattle.cmd_check.proofs.FilledParts.{next_filled}
+use Rattle.{std.proofs.Common.{arith, refl}, cmd_check.proofs.FilledParts.next_filled}
 use Rattle.cmd_check.proofs.picturing_parts.push_filled.Goals as goal
 
 pub parts-preserved : goal.parts-preserved

@@ -1,5 +1,4 @@
-use Rattle.std.proofs.Common.{◌≡◌, ◌++◌, take}
-use Rattle.cmd_check.specs.PicturingParts.{filled_lines}
+use Rattle.{std.proofs.Common.{◌≡◌, ◌++◌, take}, cmd_check.specs.PicturingParts.filled_lines}
 use Rattle.cmd_check.proofs.picturing_parts.push_filled.Given as goal
 
 abbrev pub invariant-parts : goal.invariant-parts

@@ -1,5 +1,4 @@
-use Rattle.std.{proofs.Common.{◌≡◌, ◌++◌, take}, specs.List.flat_map}
-use Rattle.cmd_check.specs.PicturingParts.{filled_line}
+use Rattle.{std.{proofs.Common.{◌≡◌, ◌++◌, take}, specs.List.flat_map}, cmd_check.specs.PicturingParts.filled_line}
 use Rattle.cmd_check.proofs.picturing_parts.push_filled_part.Given as goal
 
 abbrev pub invariant-part : goal.invariant-part

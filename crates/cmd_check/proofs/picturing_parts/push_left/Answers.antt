@@ -1,5 +1,4 @@
-use Rattle.std.proofs.Common.{◌∙◌, sym}
-use Rattle.cmd_check.proofs.FilledParts.{alone_drawn, else_drawn}
+use Rattle.{std.proofs.Common.{◌∙◌, sym}, cmd_check.proofs.FilledParts.{alone_drawn, else_drawn}}
 use Rattle.cmd_check.proofs.picturing_parts.push_left.Goals as goal
 
 pub returns-in_ok-push_alone : goal.returns-in_ok-push_alone

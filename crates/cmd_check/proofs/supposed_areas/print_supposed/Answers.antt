@@ -1,5 +1,4 @@
-use Rattle.std.proofs.{Common.arith, lemmas.Result.err_from_is_err_and}
-use Rattle.cmd_status.proofs.Lines.{alone}
+use Rattle.{std.proofs.{Common.arith, lemmas.Result.err_from_is_err_and}, cmd_status.proofs.Lines.alone}
 use Rattle.cmd_check.proofs.supposed_areas.print_supposed.Goals as goal
 
 pub returns-in_err-print_rest : goal.returns-in_err-print_rest

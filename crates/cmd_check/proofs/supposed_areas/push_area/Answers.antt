@@ -1,5 +1,4 @@
-use Rattle.std.specs.Option.{option_copied}
-use Rattle.cmd_check.{specs.JudgedAreas.judged_net, proofs.Judgements.area_judged}
+use Rattle.{std.specs.Option.option_copied, cmd_check.{specs.JudgedAreas.judged_net, proofs.Judgements.area_judged}}
 use Rattle.cmd_check.proofs.supposed_areas.push_area.Goals as goal
 
 pub returns-clause-lines : goal.returns-clause-lines

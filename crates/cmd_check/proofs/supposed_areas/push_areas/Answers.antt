@@ -1,5 +1,4 @@
-use Rattle.std.{proofs.Common.arith, specs.Option.option_copied}
-use Rattle.cmd_suppose.{specs.Listings.IsListing, proofs.Zips.zip_read}
+use Rattle.{std.{proofs.Common.arith, specs.Option.option_copied}, cmd_suppose.{specs.Listings.IsListing, proofs.Zips.zip_read}}
 use Rattle.cmd_check.{specs.JudgedAreas.{IsAreaJudged, JudgedNet, judged_net}, proofs.AllAreas.{next_area, none_checked}}
 use Rattle.cmd_check.proofs.supposed_areas.push_areas.Goals as goal
 

@@ -1,9 +1,6 @@
 -- The lines of the areas so far are added.
-use Rattle.std.{proofs.Common.{◌≤◌, List, take}, specs.{List.AllZip, Option.option_copied}}
-use Rattle.echo_links.specs.Links.{LinkFile}
-use Rattle.cmd_suppose.specs.Listings.{IsListing}
-use Rattle.cmd_print.specs.Pushed.{Pushes}
-use Rattle.cmd_check.specs.JudgedAreas.{AreAreasJudged, judged_net}
+use Rattle.{std.{proofs.Common.{◌≤◌, List, take}, specs.{List.AllZip, Option.option_copied}}, echo_links.specs.Links.LinkFile}
+use Rattle.{cmd_suppose.specs.Listings.IsListing, cmd_print.specs.Pushed.Pushes, cmd_check.specs.JudgedAreas.{AreAreasJudged, judged_net}}
 use Rattle.cmd_check.proofs.supposed_areas.push_areas.Given as goal
 
 abbrev pub invariant-areas : goal.invariant-areas

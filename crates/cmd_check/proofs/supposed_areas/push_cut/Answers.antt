@@ -1,6 +1,4 @@
-use Rattle.std.proofs.Common.{length}
-use Rattle.cmd_check.proofs.Judgements.{none_cut, some_cut}
-use Rattle.cmd_suppose.proofs.Leftovers.{empty_none, full_some}
+use Rattle.{std.proofs.Common.length, cmd_check.proofs.Judgements.{none_cut, some_cut}, cmd_suppose.proofs.Leftovers.{empty_none, full_some}}
 use Rattle.cmd_check.proofs.supposed_areas.push_cut.Goals as goal
 
 pub returns-then-is_empty : goal.returns-then-is_empty

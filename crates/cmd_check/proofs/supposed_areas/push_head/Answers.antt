@@ -1,5 +1,4 @@
-use Rattle.std.{proofs.Common.{◌∙◌, sym}, specs.Option.option_copied}
-use Rattle.cmd_check.proofs.Judgements.{alone_pushed, verdict_pushed}
+use Rattle.{std.{proofs.Common.{◌∙◌, sym}, specs.Option.option_copied}, cmd_check.proofs.Judgements.{alone_pushed, verdict_pushed}}
 use Rattle.cmd_check.proofs.supposed_areas.push_head.Goals as goal
 
 pub returns-in_ok-push_alone-clause-lines : goal.returns-in_ok-push_alone-clause-lines

@@ -1,5 +1,4 @@
-use Rattle.std.{proofs.Common.refl, specs.Option.option_copied}
-use Rattle.cmd_check.{specs.JudgedAreas.judged_net, proofs.Judgements.net_pushed}
+use Rattle.{std.{proofs.Common.refl, specs.Option.option_copied}, cmd_check.{specs.JudgedAreas.judged_net, proofs.Judgements.net_pushed}}
 use Rattle.cmd_check.proofs.supposed_areas.push_net.Goals as goal
 
 pub returns : goal.returns

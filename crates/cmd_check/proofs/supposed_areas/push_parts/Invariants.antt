@@ -1,5 +1,4 @@
-use Rattle.std.{proofs.Common.{◌≡◌, ◌++◌, take}, specs.List.flat_map}
-use Rattle.cmd_check.specs.JudgedAreas.{cut_line}
+use Rattle.{std.{proofs.Common.{◌≡◌, ◌++◌, take}, specs.List.flat_map}, cmd_check.specs.JudgedAreas.cut_line}
 use Rattle.cmd_check.proofs.supposed_areas.push_parts.Given as goal
 
 abbrev pub invariant-cut : goal.invariant-cut

@@ -1,5 +1,4 @@
-use Rattle.std.proofs.Common.{arith, append_assoc, append-nil}
-use Rattle.cmd_suppose.proofs.SupposedTexts.{few_noted, many_noted}
+use Rattle.{std.proofs.Common.{arith, append_assoc, append-nil}, cmd_suppose.proofs.SupposedTexts.{few_noted, many_noted}}
 use Rattle.cmd_check.proofs.supposed_areas.push_unseen_note.Goals as goal
 
 pub returns-then-unseen-lt2 : goal.returns-then-unseen-lt2

@@ -1,5 +1,4 @@
-use Rattle.std.{proofs.Common.{◌≡◌, ◌++◌, take}, specs.List.flat_map}
-use Rattle.cmd_check.specs.JudgedAreas.{without_note}
+use Rattle.{std.{proofs.Common.{◌≡◌, ◌++◌, take}, specs.List.flat_map}, cmd_check.specs.JudgedAreas.without_note}
 use Rattle.cmd_check.proofs.supposed_areas.push_without_notes.Given as goal
 
 abbrev pub invariant-out : goal.invariant-out

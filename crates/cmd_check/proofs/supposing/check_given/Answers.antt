@@ -1,6 +1,4 @@
-use Rattle.std.{proofs.Common.{◌≡◌, None, arith}, specs.Option.option_copied}
-use Rattle.cmd_status.specs.{Devices.output_of}
-use Rattle.cmd_suppose.specs.Leaving.{first_unknown}
+use Rattle.{std.{proofs.Common.{◌≡◌, None, arith}, specs.Option.option_copied}, cmd_status.specs.Devices.output_of, cmd_suppose.specs.Leaving.first_unknown}
 use Rattle.cmd_check.proofs.Judgements.{supposing_ended}
 use Rattle.cmd_check.proofs.supposing.check_given.Goals as goal
 

@@ -1,6 +1,4 @@
-use Rattle.std.specs.Option.{option_copied}
-use Rattle.cmd_status.specs.Devices.{output_of}
-use Rattle.cmd_check.proofs.Judgements.{known_judged}
+use Rattle.{std.specs.Option.option_copied, cmd_status.specs.Devices.output_of, cmd_check.proofs.Judgements.known_judged}
 use Rattle.cmd_check.proofs.supposing.check_known.Goals as goal
 
 pub returns : goal.returns

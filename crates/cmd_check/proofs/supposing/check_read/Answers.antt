@@ -1,7 +1,5 @@
-use Rattle.std.{proofs.{Common.{inr, refl}, lemmas.Result.err_from_is_err_and}, specs.Option.option_copied}
-use Rattle.cmd_suppose.{specs.Listings.IsListing, proofs.Zips.zip_length}
-use Rattle.cmd_status.specs.Devices.{output_of}
-use Rattle.cmd_check.proofs.Judgements.{supposed_refused, was_judged}
+use Rattle.{std.{proofs.{Common.{inr, refl}, lemmas.Result.err_from_is_err_and}, specs.Option.option_copied}, cmd_suppose.specs.Listings.IsListing}
+use Rattle.{cmd_suppose.proofs.Zips.zip_length, cmd_status.specs.Devices.output_of, cmd_check.proofs.Judgements.{supposed_refused, was_judged}}
 use Rattle.cmd_check.proofs.supposing.check_read.Goals as goal
 
 pub read_supposed-requires : goal.read_supposed-requires

@@ -1,5 +1,4 @@
-use Rattle.std.specs.Option.{option_copied}
-use Rattle.cmd_check.proofs.Judgements.{headline_supposing}
+use Rattle.{std.specs.Option.option_copied, cmd_check.proofs.Judgements.headline_supposing}
 use Rattle.cmd_check.proofs.supposing.check_supposing.Goals as goal
 
 pub returns-clause-headline : goal.returns-clause-headline

@@ -1,6 +1,5 @@
-use Rattle.std.{proofs.{Common.{arith, length}, lemmas.Result.err_from_is_err_and}, specs.Option.option_copied}
-use Rattle.cmd_status.specs.{Devices.output_of, Inputs.IsLinkFault}
-use Rattle.cmd_check.{specs.{JudgedAreas.judged_net, Supposing.{IsLeftShown, IsNetShown}}, proofs.Printing.printed_as}
+use Rattle.{std.{proofs.{Common.{arith, length}, lemmas.Result.err_from_is_err_and}, specs.Option.option_copied}, cmd_status.specs.Devices.output_of}
+use Rattle.{cmd_status.specs.Inputs.IsLinkFault, cmd_check.{specs.{JudgedAreas.judged_net, Supposing.{IsLeftShown, IsNetShown}}, proofs.Printing.printed_as}}
 use Rattle.cmd_suppose.{specs.Leaving.texts_left, proofs.Leftovers.{all_left, empty_none, full_some, some_left}}
 use Rattle.cmd_check.proofs.supposing.check_whole.Goals as goal
 

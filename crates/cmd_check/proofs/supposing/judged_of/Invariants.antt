@@ -1,5 +1,4 @@
-use Rattle.std.proofs.Common.{◌≡◌, filter, map, take}
-use Rattle.cmd_suppose.specs.Leaving.{is_judged}
+use Rattle.{std.proofs.Common.{◌≡◌, filter, map, take}, cmd_suppose.specs.Leaving.is_judged}
 use Rattle.cmd_check.proofs.supposing.judged_of.Given as goal
 
 abbrev pub invariant-all : goal.invariant-all

@@ -1,5 +1,4 @@
-use Rattle.std.proofs.Common.{refl, ap, sym, ◌∙◌, unsigned_abs}
-use Rattle.cmd_input.proofs.OneMoment.{day_fits, same_date, same_time}
+use Rattle.{std.proofs.Common.{refl, ap, sym, ◌∙◌, unsigned_abs}, cmd_input.proofs.OneMoment.{day_fits, same_date, same_time}}
 use Rattle.cmd_input.proofs.moment.utc_stamp.Goals as goal
 
 pub returns-in_err-date-clause-only : goal.returns-in_err-date-clause-only

@@ -1,7 +1,5 @@
-use Rattle.std.proofs.{Common.{◌∙◌, ℕ, List, arith, length-append, subst}, KnownBytes.Appends-trans}
-use Rattle.echo_jam.specs.Fields.{body_of}
-use Rattle.cmd_status.{specs.Lines.WritesFront, proofs.Lines.{front_sent, none_begun}}
-use Rattle.cmd_numbered.proofs.Addings.{at_error, begun_since}
+use Rattle.{std.proofs.{Common.{◌∙◌, ℕ, List, arith, length-append, subst}, KnownBytes.Appends-trans}, echo_jam.specs.Fields.body_of}
+use Rattle.{cmd_status.{specs.Lines.WritesFront, proofs.Lines.{front_sent, none_begun}}, cmd_numbered.proofs.Addings.{at_error, begun_since}}
 use Rattle.cmd_numbered.proofs.adding.add_message.Goals as goal
 
 pub returns-clause-added : goal.returns-clause-added

@@ -1,6 +1,4 @@
-use Rattle.std.proofs.Common.{◌≡◌, ◌≤◌, ℕ}
-use Rattle.base_file.specs.Base.{Base}
-use Rattle.base_folder.specs.Source.{AreLegibleTo}
+use Rattle.{std.proofs.Common.{◌≡◌, ◌≤◌, ℕ}, base_file.specs.Base.Base, base_folder.specs.Source.AreLegibleTo}
 use Rattle.cmd_numbered.specs.JamAdded.{Added, HasAdded, added_of}
 use Rattle.cmd_numbered.proofs.adding.added_of.Given as goal
 

@@ -1,5 +1,4 @@
-use Rattle.std.proofs.{Common.[], Common.refl, Common.arith, KnownBytes.Appends-nil}
-use Rattle.cmd_numbered.proofs.Addings.{at_error}
+use Rattle.{std.proofs.{Common.{[], refl, arith}, KnownBytes.Appends-nil}, cmd_numbered.proofs.Addings.at_error}
 use Rattle.cmd_numbered.proofs.adding.export_jam.Goals as goal
 
 pub returns-in_err-area-clause-begun : goal.returns-in_err-area-clause-begun

@@ -1,7 +1,4 @@
-use Rattle.std.proofs.Common.{◌≡◌, ◌≤◌, ℕ}
-use Rattle.base_file.specs.Base.{Base}
-use Rattle.base_folder.specs.Source.{AreLegibleTo}
-use Rattle.cmd_numbered.specs.JamAdded.{resumed_jam}
+use Rattle.{std.proofs.Common.{◌≡◌, ◌≤◌, ℕ}, base_file.specs.Base.Base, base_folder.specs.Source.AreLegibleTo, cmd_numbered.specs.JamAdded.resumed_jam}
 use Rattle.cmd_numbered.proofs.adding.resumed_jam.Given as goal
 
 abbrev pub invariant-messages : goal.invariant-messages

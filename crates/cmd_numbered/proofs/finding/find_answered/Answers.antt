@@ -1,5 +1,4 @@
-use Rattle.std.proofs.{Common.◌∙◌, Common.add-one, Common.arith, lemmas.Result.err_from_is_err_and}
-use Rattle.base_folder.proofs.{Fetchings.unread_since, Readings.read_more}
+use Rattle.{std.proofs.{Common.{◌∙◌, add-one, arith}, lemmas.Result.err_from_is_err_and}, base_folder.proofs.{Fetchings.unread_since, Readings.read_more}}
 use Rattle.cmd_numbered.proofs.finding.find_answered.Goals as goal
 
 pub messages-init : goal.messages-init

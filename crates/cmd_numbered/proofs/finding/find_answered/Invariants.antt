@@ -1,6 +1,4 @@
-use Rattle.std.{proofs.Common.{◌≡◌, ◌≤◌, ℕ}, specs.Option.option_map}
-use Rattle.base_file.specs.Base.{Base}
-use Rattle.base_folder.specs.Source.{AreLegibleTo}
+use Rattle.{std.{proofs.Common.{◌≡◌, ◌≤◌, ℕ}, specs.Option.option_map}, base_file.specs.Base.Base, base_folder.specs.Source.AreLegibleTo}
 use Rattle.cmd_numbered.specs.Finding.{answered_as, last_with}
 use Rattle.cmd_numbered.proofs.finding.find_answered.Given as goal
 

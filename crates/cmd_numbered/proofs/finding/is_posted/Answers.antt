@@ -1,7 +1,5 @@
-use Rattle.std.proofs.{Common.{◌∙◌, Option, add-one, arith, sym}, lemmas.Result.err_from_is_err_and}
-use Rattle.base_folder.proofs.{Fetchings.unread_since, Readings.read_more}
-use Rattle.echo_filed.specs.Filed.{Filed}
-use Rattle.cmd_numbered.specs.Finding.{is_found_as, last_at, last_with}
+use Rattle.{std.proofs.{Common.{◌∙◌, Option, add-one, arith, sym}, lemmas.Result.err_from_is_err_and}, base_folder.proofs.Fetchings.unread_since}
+use Rattle.{base_folder.proofs.Readings.read_more, echo_filed.specs.Filed.Filed, cmd_numbered.specs.Finding.{is_found_as, last_at, last_with}}
 use Rattle.cmd_numbered.proofs.finding.is_posted.Goals as goal
 
 pub messages-init : goal.messages-init

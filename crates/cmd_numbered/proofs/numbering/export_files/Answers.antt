@@ -1,5 +1,4 @@
-use Rattle.std.proofs.Common.{option_copied, arith}
-use Rattle.cmd_numbered.proofs.Gettings.{made_since}
+use Rattle.{std.proofs.Common.{option_copied, arith}, cmd_numbered.proofs.Gettings.made_since}
 use Rattle.cmd_numbered.proofs.numbering.export_files.Goals as goal
 
 pub returns-clause-files : goal.returns-clause-files

@@ -1,6 +1,4 @@
-use Rattle.std.proofs.Common.{◌≡◌, ◌≤◌}
-use Rattle.base_file.specs.Base.{Base}
-use Rattle.cmd_numbered.specs.Numbered.{IsMade, files_of}
+use Rattle.{std.proofs.Common.{◌≡◌, ◌≤◌}, base_file.specs.Base.Base, cmd_numbered.specs.Numbered.{IsMade, files_of}}
 use Rattle.cmd_numbered.proofs.numbering.make_files.Given as goal
 
 abbrev pub invariant-messages : goal.invariant-messages

@@ -1,6 +1,5 @@
-use Rattle.std.proofs.Common.{◌+◌, ◌∙◌, ap, option_copied, slice_get, sym}
-use Rattle.cmd_numbered.{specs.Numbered.{file_at, file_of}, proofs.Gettings.{one_file, unmade}}
-use Rattle.base_folder.proofs.Readings.{on_ok_so}
+use Rattle.{std.proofs.Common.{◌+◌, ◌∙◌, ap, option_copied, slice_get, sym}, cmd_numbered.specs.Numbered.{file_at, file_of}}
+use Rattle.{cmd_numbered.proofs.Gettings.{one_file, unmade}, base_folder.proofs.Readings.on_ok_so}
 use Rattle.cmd_numbered.proofs.numbering.make_next.Goals as goal
 
 pub returns-in-Some-clause-fault : goal.returns-in-Some-clause-fault

@@ -1,6 +1,5 @@
 use Rattle.std.{proofs.Common.{◌≡◌, ◌∙◌, ◌+◌, ℕ, Bool, List, Option, add-one, ap, arith, option_copied, slice_get}, specs.Prelude.if◌then◌else◌}
-use Rattle.base_folder.proofs.{Fetchings.unread_since, Lookings.err_is, Readings.looks_on, Readings.read_more}
-use Rattle.echo_filed.specs.Filed.{Filed}
+use Rattle.{base_folder.proofs.{Fetchings.unread_since, Lookings.err_is, Readings.{looks_on, read_more}}, echo_filed.specs.Filed.Filed}
 use Rattle.cmd_numbered.specs.Numbered.{is_last, resumed}
 use Rattle.cmd_numbered.proofs.numbering.resumed.Goals as goal
 

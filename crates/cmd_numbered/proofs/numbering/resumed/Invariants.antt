@@ -1,6 +1,4 @@
-use Rattle.std.proofs.Common.{◌≡◌, ◌≤◌, option_copied, ℕ}
-use Rattle.base_file.specs.Base.{Base}
-use Rattle.base_folder.specs.Source.{AreLegibleTo}
+use Rattle.{std.proofs.Common.{◌≡◌, ◌≤◌, option_copied, ℕ}, base_file.specs.Base.Base, base_folder.specs.Source.AreLegibleTo}
 use Rattle.cmd_numbered.specs.Numbered.{resumed}
 use Rattle.cmd_numbered.proofs.numbering.resumed.Given as goal
 

@@ -1,6 +1,5 @@
 use Rattle.std.{proofs.{Common.{ap, codes, length, sym, ◌++◌, ◌∙◌}, lemmas.{Bool.eqb-true, List.append-nil}}, specs.List.flat_map}
-use Rattle.echo_text.proofs.TextLines.{no_lines}
-use Rattle.echo_charset.specs.Escaped.{escaped_line}
+use Rattle.{echo_text.proofs.TextLines.no_lines, echo_charset.specs.Escaped.escaped_line}
 use Rattle.cmd_print.proofs.base_text.push_lines.Goals as goal
 
 pub returns : goal.returns

@@ -1,5 +1,4 @@
-use Rattle.std.{proofs.Common.{◌≡◌, ◌≤◌, take}, specs.List.count_by}
-use Rattle.cmd_print.specs.Listed.{is_entry}
+use Rattle.{std.{proofs.Common.{◌≡◌, ◌≤◌, take}, specs.List.count_by}, cmd_print.specs.Listed.is_entry}
 use Rattle.cmd_print.proofs.nodelist_text.count_entries.Given as goal
 
 abbrev pub invariant-lines : goal.invariant-lines

@@ -1,5 +1,4 @@
-use Rattle.std.{proofs.Common.{◌≡◌, ◌++◌, take}, specs.List.flat_map}
-use Rattle.cmd_print.specs.Pictured.{later_step}
+use Rattle.{std.{proofs.Common.{◌≡◌, ◌++◌, take}, specs.List.flat_map}, cmd_print.specs.Pictured.later_step}
 use Rattle.cmd_print.proofs.picture_text.push_later.Given as goal
 
 abbrev pub invariant-steps : goal.invariant-steps

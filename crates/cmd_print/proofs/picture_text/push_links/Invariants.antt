@@ -1,5 +1,4 @@
-use Rattle.std.{proofs.Common.{◌≡◌, ◌++◌, take}, specs.List.flat_map}
-use Rattle.cmd_print.specs.Pictured.{link_line}
+use Rattle.{std.{proofs.Common.{◌≡◌, ◌++◌, take}, specs.List.flat_map}, cmd_print.specs.Pictured.link_line}
 use Rattle.cmd_print.proofs.picture_text.push_links.Given as goal
 
 abbrev pub invariant-links : goal.invariant-links

@@ -1,5 +1,4 @@
-use Rattle.std.{proofs.Common.{◌≡◌, ◌++◌, take}, specs.List.flat_map}
-use Rattle.cmd_print.specs.Pictured.{quoted_byte}
+use Rattle.{std.{proofs.Common.{◌≡◌, ◌++◌, take}, specs.List.flat_map}, cmd_print.specs.Pictured.quoted_byte}
 use Rattle.cmd_print.proofs.picture_text.push_quoted_bytes.Given as goal
 
 abbrev pub invariant-bytes : goal.invariant-bytes

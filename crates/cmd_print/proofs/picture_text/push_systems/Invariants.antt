@@ -1,5 +1,4 @@
-use Rattle.std.{proofs.Common.{◌≡◌, ◌++◌, take}, specs.List.flat_map}
-use Rattle.cmd_print.specs.Pictured.{system_line}
+use Rattle.{std.{proofs.Common.{◌≡◌, ◌++◌, take}, specs.List.flat_map}, cmd_print.specs.Pictured.system_line}
 use Rattle.cmd_print.proofs.picture_text.push_systems.Given as goal
 
 abbrev pub invariant-systems : goal.invariant-systems

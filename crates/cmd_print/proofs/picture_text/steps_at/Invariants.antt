@@ -1,5 +1,4 @@
-use Rattle.std.proofs.Common.{◌≡◌, take}
-use Rattle.cmd_print.specs.Pictured.{steps_at}
+use Rattle.{std.proofs.Common.{◌≡◌, take}, cmd_print.specs.Pictured.steps_at}
 use Rattle.cmd_print.proofs.picture_text.steps_at.Given as goal
 
 abbrev pub invariant-crossings : goal.invariant-crossings

@@ -1,5 +1,4 @@
-use Rattle.std.proofs.lemmas.Result.{on_ok_weaker}
-use Rattle.cmd_print.proofs.Absences.{absences_pushed}
+use Rattle.{std.proofs.lemmas.Result.on_ok_weaker, cmd_print.proofs.Absences.absences_pushed}
 use Rattle.cmd_print.proofs.verdict_text.push_absences.Goals as goal
 
 pub returns-in_ok-listed-in-Some : goal.returns-in_ok-listed-in-Some

@@ -1,5 +1,4 @@
-use Rattle.std.{proofs.Common.{◌≡◌, ◌++◌, take}, specs.List.flat_map}
-use Rattle.cmd_print.specs.Checked.{absence_line}
+use Rattle.{std.{proofs.Common.{◌≡◌, ◌++◌, take}, specs.List.flat_map}, cmd_print.specs.Checked.absence_line}
 use Rattle.cmd_print.proofs.verdict_text.push_each.Given as goal
 
 abbrev pub invariant-absent : goal.invariant-absent

@@ -1,6 +1,5 @@
-use Rattle.std.proofs.Common.{List, ◌∙◌, ◌<◌, ◌≤◌, arith, length, option_copied, subst, take_all}
-use Rattle.base_folder.proofs.{Fetchings.unread_since, Lookings.err_is, Readings.read_more}
-use Rattle.echo_filed.specs.Filed.{Filed}
+use Rattle.{std.proofs.Common.{List, ◌∙◌, ◌<◌, ◌≤◌, arith, length, option_copied, subst, take_all}, base_folder.proofs.Fetchings.unread_since}
+use Rattle.{base_folder.proofs.{Lookings.err_is, Readings.read_more}, echo_filed.specs.Filed.Filed}
 use Rattle.cmd_repair.{specs.IdsListed.{Gathers, area_ids, area_messages}, proofs.Gatherings.gathered_next}
 use Rattle.cmd_repair.proofs.gathering.gather_ids.Goals as goal
 

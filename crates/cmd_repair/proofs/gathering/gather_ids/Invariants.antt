@@ -1,6 +1,4 @@
-use Rattle.std.proofs.Common.{ℕ, ◌≡◌, ◌≤◌, length, take}
-use Rattle.base_file.specs.Base.{Base}
-use Rattle.base_folder.specs.Source.{AreLegibleTo}
+use Rattle.{std.proofs.Common.{ℕ, ◌≡◌, ◌≤◌, length, take}, base_file.specs.Base.Base, base_folder.specs.Source.AreLegibleTo}
 use Rattle.cmd_repair.specs.IdsListed.{Gathers, area_ids, area_messages}
 use Rattle.cmd_repair.proofs.gathering.gather_ids.Given as goal
 

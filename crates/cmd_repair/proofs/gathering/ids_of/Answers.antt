@@ -1,5 +1,4 @@
-use Rattle.std.proofs.{Common.{◌∙◌, ◌∷◌, [], Bor, List, ap, map, ℕ}, lemmas.List.map-append}
-use Rattle.cmd_repair.proofs.Cutting.{cut_all, cut_more}
+use Rattle.{std.proofs.{Common.{◌∙◌, ◌∷◌, [], Bor, List, ap, map, ℕ}, lemmas.List.map-append}, cmd_repair.proofs.Cutting.{cut_all, cut_more}}
 use Rattle.cmd_repair.proofs.gathering.ids_of.Goals as goal
 
 pub ids-preserved : goal.ids-preserved

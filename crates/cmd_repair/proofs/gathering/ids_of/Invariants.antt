@@ -1,5 +1,4 @@
-use Rattle.std.proofs.Common.{List, map, ℕ}
-use Rattle.cmd_repair.{specs.IdsListed.Gathers, proofs.Cutting.IsCut}
+use Rattle.{std.proofs.Common.{List, map, ℕ}, cmd_repair.{specs.IdsListed.Gathers, proofs.Cutting.IsCut}}
 use Rattle.cmd_repair.proofs.gathering.ids_of.Given as goal
 
 abbrev pub invariant-ids : goal.invariant-ids

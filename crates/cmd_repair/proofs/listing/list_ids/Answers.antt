@@ -1,5 +1,4 @@
-use Rattle.std.proofs.{Common.{◌∙◌, arith, inl, inr, refl, subst, sym, ℕ}, lemmas.Result.err_from_is_err_and}
-use Rattle.echo_links.specs.Links.{upper}
+use Rattle.{std.proofs.{Common.{◌∙◌, arith, inl, inr, refl, subst, sym, ℕ}, lemmas.Result.err_from_is_err_and}, echo_links.specs.Links.upper}
 use Rattle.cmd_status.specs.{Devices.output_of, Ended.CannotPrint}
 use Rattle.cmd_repair.proofs.Listed.{memory_answer, ready, ready_begun, ready_done, ready_kept, ready_unfinished}
 use Rattle.cmd_repair.proofs.listing.list_ids.Goals as goal

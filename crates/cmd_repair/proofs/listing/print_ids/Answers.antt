@@ -1,5 +1,4 @@
-use Rattle.std.proofs.Common.{◌<◌, ◌∙◌, arith, length}
-use Rattle.cmd_repair.proofs.{Listed.printed_id, Printings.at_error, Printings.begun_next, Printings.passed_next}
+use Rattle.{std.proofs.Common.{◌<◌, ◌∙◌, arith, length}, cmd_repair.proofs.{Listed.printed_id, Printings.{at_error, begun_next, passed_next}}}
 use Rattle.cmd_repair.proofs.listing.print_ids.Goals as goal
 
 pub ids-preserved : goal.ids-preserved

@@ -1,5 +1,4 @@
-use Rattle.std.{proofs.Common.{◌≡◌, ◌++◌, take}, specs.{List.flat_map, Prelude.codes}}
-use Rattle.echo_charset.specs.Escaped.{escaped_line}
+use Rattle.{std.{proofs.Common.{◌≡◌, ◌++◌, take}, specs.{List.flat_map, Prelude.codes}}, echo_charset.specs.Escaped.escaped_line}
 use Rattle.cmd_status.specs.Lines.{PassesOn}
 use Rattle.cmd_repair.proofs.listing.print_ids.Given as goal
 

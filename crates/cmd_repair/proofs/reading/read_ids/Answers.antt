@@ -1,8 +1,6 @@
-use Rattle.std.proofs.{Common.{List, ◌∙◌, ◌++◌, ◌≡◌, ap, arith, inr, length, map, refl, sym, ℕ}, lemmas.Bool.eqb-true}
-use Rattle.std.specs.{List.list_any, Prelude.bytes_eq}
-use Rattle.echo_links.specs.LinkLines.{file_lines}
-use Rattle.cmd_repair.specs.{IdList.missing_line, IdList.stage_after, Words.area_words}
-use Rattle.cmd_repair.proofs.{Readings.goes_on, Readings.missing_there, Readings.read_whole, Readings.words_more, Readings.words_whole, RightLists.right_given}
+use Rattle.std.{proofs.{Common.{List, ◌∙◌, ◌++◌, ◌≡◌, ap, arith, inr, length, map, refl, sym, ℕ}, lemmas.Bool.eqb-true}, specs.List.list_any}
+use Rattle.{std.specs.Prelude.bytes_eq, echo_links.specs.LinkLines.file_lines, cmd_repair.specs.{IdList.{missing_line, stage_after}, Words.area_words}}
+use Rattle.cmd_repair.proofs.{Readings.{goes_on, missing_there, read_whole, words_more, words_whole}, RightLists.right_given}
 use Rattle.cmd_repair.proofs.reading.read_ids.Goals as goal
 
 pub lines-preserved : goal.lines-preserved

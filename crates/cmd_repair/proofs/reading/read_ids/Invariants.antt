@@ -1,6 +1,5 @@
-use Rattle.std.proofs.Common.{◌≡◌, ◌++◌, length, map}
-use Rattle.echo_links.specs.LinkLines.{file_lines}
-use Rattle.cmd_repair.specs.{declared.reading.Stage.TheVariants.Start, IdList.id_words, IdList.wrong_line}
+use Rattle.{std.proofs.Common.{◌≡◌, ◌++◌, length, map}, echo_links.specs.LinkLines.file_lines, cmd_repair.specs.declared.reading.Stage.TheVariants.Start}
+use Rattle.cmd_repair.specs.IdList.{id_words, wrong_line}
 use Rattle.cmd_repair.proofs.reading.read_ids.Given as goal
 
 abbrev pub invariant-lines : goal.invariant-lines

@@ -1,6 +1,4 @@
-use Rattle.std.proofs.Common.{arith, option_copied}
-use Rattle.base_folder.proofs.Lookings.{err_is}
-use Rattle.cmd_repair.proofs.Sendings.{asked_sent, unsent_device, unsent_undone}
+use Rattle.{std.proofs.Common.{arith, option_copied}, base_folder.proofs.Lookings.err_is, cmd_repair.proofs.Sendings.{asked_sent, unsent_device, unsent_undone}}
 use Rattle.cmd_repair.proofs.sending.send_all.Goals as goal
 
 pub returns-in_err-counted-clause-fault : goal.returns-in_err-counted-clause-fault

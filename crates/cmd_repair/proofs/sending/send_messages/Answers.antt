@@ -1,9 +1,6 @@
 use Rattle.std.proofs.{Common.{List, ◌≡◌, ◌∙◌, ◌<◌, ◌≤◌, ◌++◌, arith, drop, length, option_copied, refl, subst, sym, take_all, ⊎_elim}, lemmas.Bool.cases_lt}
-use Rattle.base_folder.proofs.{Lookings.err_is, Readings.not_past}
-use Rattle.echo_filed.specs.Filed.{Filed}
-use Rattle.echo_packet.specs.Message.{messages_bytes}
-use Rattle.cmd_status.specs.Lines.{PassesOn}
-use Rattle.cmd_repair.specs.Repair.{counted_with_copies, nothing_counted, sent_copies}
+use Rattle.{base_folder.proofs.{Lookings.err_is, Readings.not_past}, echo_filed.specs.Filed.Filed, echo_packet.specs.Message.messages_bytes}
+use Rattle.{cmd_status.specs.Lines.PassesOn, cmd_repair.specs.Repair.{counted_with_copies, nothing_counted, sent_copies}}
 use Rattle.cmd_repair.proofs.Sendings.{counted_next, none_counted, none_sent, passed_next, read_from, undone_reading, undone_stopped}
 use Rattle.cmd_repair.proofs.sending.send_messages.Goals as goal
 

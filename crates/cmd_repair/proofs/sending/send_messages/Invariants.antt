@@ -1,8 +1,5 @@
-use Rattle.std.proofs.Common.{ℕ, ◌≡◌, ◌<◌, ◌≤◌, ◌++◌, drop, option_copied, take}
-use Rattle.base_file.specs.Base.{Base}
-use Rattle.echo_packet.specs.Message.{messages_bytes}
-use Rattle.cmd_status.specs.Lines.{PassesOn}
-use Rattle.cmd_repair.specs.Repair.{AreLegibleFrom, counted_with_copies, nothing_counted, sent_copies}
+use Rattle.{std.proofs.Common.{ℕ, ◌≡◌, ◌<◌, ◌≤◌, ◌++◌, drop, option_copied, take}, base_file.specs.Base.Base, echo_packet.specs.Message.messages_bytes}
+use Rattle.{cmd_status.specs.Lines.PassesOn, cmd_repair.specs.Repair.{AreLegibleFrom, counted_with_copies, nothing_counted, sent_copies}}
 use Rattle.cmd_repair.proofs.sending.send_messages.Given as goal
 
 abbrev pub invariant-messages : goal.invariant-messages

@@ -1,5 +1,4 @@
-use Rattle.std.proofs.{Common.{◌+◌, ◌++◌, ◌∙◌, [], Option, ap, append-nil, arith, drop, get_or, refl, ℕ}, lemmas.List.drop_all}
-use Rattle.std.specs.List.{cons_option}
+use Rattle.std.{proofs.{Common.{◌+◌, ◌++◌, ◌∙◌, [], Option, ap, append-nil, arith, drop, get_or, refl, ℕ}, lemmas.List.drop_all}, specs.List.cons_option}
 use Rattle.cmd_repair.{specs.Ids.unescaped, proofs.Unescaped.read-on}
 use Rattle.cmd_repair.proofs.words.unescape.Goals as goal
 

@@ -1,5 +1,4 @@
-use Rattle.std.proofs.Common.{◌≡◌, ◌++◌, drop}
-use Rattle.cmd_repair.specs.Ids.{unescaped}
+use Rattle.{std.proofs.Common.{◌≡◌, ◌++◌, drop}, cmd_repair.specs.Ids.unescaped}
 use Rattle.cmd_repair.proofs.words.unescape.Given as goal
 
 abbrev pub invariant-bytes : goal.invariant-bytes

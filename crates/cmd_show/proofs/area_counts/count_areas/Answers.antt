@@ -1,5 +1,4 @@
-use Rattle.std.proofs.Common.{arith, take_all}
-use Rattle.base_folder.proofs.{Lookings.err_is, Fetchings.unread_since}
+use Rattle.{std.proofs.Common.{arith, take_all}, base_folder.proofs.{Lookings.err_is, Fetchings.unread_since}}
 use Rattle.cmd_show.proofs.AreasCounted.{none_counted, none_within}
 use Rattle.cmd_show.proofs.area_counts.count_areas.Goals as goal
 

@@ -1,5 +1,4 @@
-use Rattle.std.proofs.Common.{◌≡◌, ◌≤◌, Global, List, Vec, take, ℕ}
-use Rattle.base_file.specs.Base.{Base}
+use Rattle.{std.proofs.Common.{◌≡◌, ◌≤◌, Global, List, Vec, take, ℕ}, base_file.specs.Base.Base}
 use Rattle.cmd_show.specs.AreasListed.{AreWithin, Ascend, HaveCounts, counts_of}
 use Rattle.cmd_show.proofs.area_counts.count_areas.Given as goal
 

@@ -1,5 +1,4 @@
-use Rattle.std.{proofs.Common.{◌∙◌, ap, option_copied, sym}, specs.Prelude.unwrap_or}
-use Rattle.cmd_show.specs.AreasListed.{no_counts}
+use Rattle.{std.{proofs.Common.{◌∙◌, ap, option_copied, sym}, specs.Prelude.unwrap_or}, cmd_show.specs.AreasListed.no_counts}
 use Rattle.cmd_show.proofs.area_counts.counts_of.Goals as goal
 
 pub returns-in-Some : goal.returns-in-Some

@@ -1,7 +1,5 @@
-use Rattle.std.proofs.{Common.◌∙◌, Common.◌-◌, Common.Global, Common.List, Common.Vec, Common.ap, Common.length, Common.ℕ, Common.arith, lemmas.Result.err_from_is_err_and}
-use Rattle.cmd_status.specs.Devices.{output_of}
-use Rattle.base_folder.specs.Fetching.{CannotRead}
-use Rattle.cmd_show.proofs.AreasCounted.{areas_answered}
+use Rattle.{std.proofs.{Common.{◌∙◌, ◌-◌, Global, List, Vec, ap, length, ℕ, arith}, lemmas.Result.err_from_is_err_and}, cmd_status.specs.Devices.output_of}
+use Rattle.{base_folder.specs.Fetching.CannotRead, cmd_show.proofs.AreasCounted.areas_answered}
 use Rattle.cmd_show.proofs.area_counts.list_areas.Goals as goal
 
 pub returns-in_err-counts : goal.returns-in_err-counts

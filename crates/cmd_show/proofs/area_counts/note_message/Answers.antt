@@ -1,7 +1,6 @@
 use Rattle.std.proofs.Common.{◌≡◌, ◌∙◌, ◌+◌, ◌++◌, ◌∷◌, [], Global, List, Some, Vec, ap, arith, length, option_copied, subst, sym, take, ℕ}
-use Rattle.std.{proofs.lemmas.List.length-take-le, specs.Prelude.slice_get}
-use Rattle.echo_filed.specs.Filed.{Filed}
-use Rattle.cmd_show.specs.{AreasListed.AreWithin, AreasListed.HaveCounts, AreasListed.counted_more, AreasListed.counts_of, Exporting.state_of}
+use Rattle.{std.{proofs.lemmas.List.length-take-le, specs.Prelude.slice_get}, echo_filed.specs.Filed.Filed}
+use Rattle.cmd_show.specs.{AreasListed.{AreWithin, HaveCounts, counted_more, counts_of}, Exporting.state_of}
 use Rattle.cmd_show.proofs.AreasCounted.{counted_on, one_next, some_there, within_inserted, within_next}
 use Rattle.cmd_show.proofs.area_counts.note_message.Goals as goal
 

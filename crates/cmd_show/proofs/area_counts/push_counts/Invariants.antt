@@ -1,5 +1,4 @@
-use Rattle.std.{proofs.Common.{◌≡◌, ◌++◌, length}, specs.List.flat_map}
-use Rattle.cmd_show.specs.AreasListed.{area_line}
+use Rattle.{std.{proofs.Common.{◌≡◌, ◌++◌, length}, specs.List.flat_map}, cmd_show.specs.AreasListed.area_line}
 use Rattle.cmd_show.proofs.area_counts.push_counts.Given as goal
 
 abbrev pub invariant-areas : goal.invariant-areas

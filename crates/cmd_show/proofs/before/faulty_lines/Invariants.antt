@@ -1,5 +1,4 @@
-use Rattle.std.proofs.Common.{◌+◌, ◌≤◌, length}
-use Rattle.cmd_show.proofs.Reported.{ReportedLines}
+use Rattle.{std.proofs.Common.{◌+◌, ◌≤◌, length}, cmd_show.proofs.Reported.ReportedLines}
 use Rattle.cmd_show.proofs.before.faulty_lines.Given as goal
 
 abbrev pub invariant-lines : goal.invariant-lines

@@ -1,5 +1,4 @@
-use Rattle.std.proofs.{Common.option_copied, Common.arith, lemmas.Result.err_from_is_err_and}
-use Rattle.cmd_status.{specs.Devices.output_of, proofs.Lines.none_begun}
+use Rattle.{std.proofs.{Common.{option_copied, arith}, lemmas.Result.err_from_is_err_and}, cmd_status.{specs.Devices.output_of, proofs.Lines.none_begun}}
 use Rattle.cmd_show.proofs.Exportings.{export_begun, exported, unexported}
 use Rattle.cmd_show.proofs.exporting.export.Goals as goal
 

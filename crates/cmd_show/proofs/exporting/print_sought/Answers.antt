@@ -1,8 +1,7 @@
-use Rattle.std.proofs.Common.{◌∙◌, ◌≤◌, ◌+◌, length, option_copied, arith}
-use Rattle.base_folder.proofs.{Lookings.err_is, Readings.not_behind, Readings.not_past}
-use Rattle.cmd_show.proofs.{Exportings.begun_before, Exportings.none_counted, Exportings.printed_none, Exportings.sought_begun, Exportings.sought_counted, Exportings.sought_printed, Fetchings.stops_reading}
-use Rattle.cmd_show.proofs.exporting.print_sought.Goals as goal
+use Rattle.{std.proofs.Common.{◌∙◌, ◌≤◌, ◌+◌, length, option_copied, arith}, base_folder.proofs.{Lookings.err_is, Readings.{not_behind, not_past}}}
+use Rattle.cmd_show.proofs.{Exportings.{begun_before, none_counted, printed_none, sought_begun, sought_counted, sought_printed}, Fetchings.stops_reading}
 use Rattle.base_folder_store.proofs.Causes.{at_error}
+use Rattle.cmd_show.proofs.exporting.print_sought.Goals as goal
 
 pub messages-init : goal.messages-init
 messages-init g c = grind (arith, not_past, not_behind, printed_none, none_counted)

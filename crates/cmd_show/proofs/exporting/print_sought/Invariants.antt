@@ -1,6 +1,4 @@
-use Rattle.std.proofs.Common.{◌≡◌, ◌≤◌, ◌*◌, ◌^◌, ◌++◌}
-use Rattle.base_file.specs.Base.{Base}
-use Rattle.cmd_status.specs.Lines.{PassesOn}
+use Rattle.{std.proofs.Common.{◌≡◌, ◌≤◌, ◌*◌, ◌^◌, ◌++◌}, base_file.specs.Base.Base, cmd_status.specs.Lines.PassesOn}
 use Rattle.cmd_show.specs.Exporting.{sought_lost, sought_texts}
 use Rattle.cmd_show.proofs.exporting.print_sought.Given as goal
 

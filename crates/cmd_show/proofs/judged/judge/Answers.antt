@@ -1,5 +1,4 @@
-use Rattle.std.proofs.Common.{◌∙◌}
-use Rattle.cmd_show.proofs.Reported.{judged_faulty}
+use Rattle.{std.proofs.Common.◌∙◌, cmd_show.proofs.Reported.judged_faulty}
 use Rattle.cmd_show.proofs.judged.judge.Goals as goal
 
 pub returns-in_ok-reported_lines-in-Err : goal.returns-in_ok-reported_lines-in-Err

@@ -1,5 +1,4 @@
-use Rattle.std.{proofs.Common.{◌≡◌, ◌++◌, take}, specs.List.{flat_map, list_all}}
-use Rattle.cmd_show.specs.{Linking.is_good_file, LinksShown.file_text}
+use Rattle.{std.{proofs.Common.{◌≡◌, ◌++◌, take}, specs.List.{flat_map, list_all}}, cmd_show.specs.{Linking.is_good_file, LinksShown.file_text}}
 use Rattle.cmd_show.proofs.linking.push_files.Given as goal
 
 abbrev pub invariant-files : goal.invariant-files

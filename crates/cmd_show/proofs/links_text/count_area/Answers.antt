@@ -1,5 +1,4 @@
-use Rattle.std.proofs.Common.{[], None, Some, refl}
-use Rattle.cmd_show.proofs.LinkLines.{area_counted}
+use Rattle.{std.proofs.Common.{[], None, Some, refl}, cmd_show.proofs.LinkLines.area_counted}
 use Rattle.cmd_show.proofs.links_text.count_area.Goals as goal
 
 pub returns-in-Some-links : goal.returns-in-Some-links

@@ -1,5 +1,4 @@
-use Rattle.std.proofs.Common.{arith}
-use Rattle.cmd_show.{specs.LinksShown.area_links, proofs.LinkLines.sum_more}
+use Rattle.{std.proofs.Common.arith, cmd_show.{specs.LinksShown.area_links, proofs.LinkLines.sum_more}}
 use Rattle.cmd_show.proofs.links_text.count_links.Goals as goal
 
 pub areas-preserved : goal.areas-preserved

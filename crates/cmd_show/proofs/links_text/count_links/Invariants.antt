@@ -1,5 +1,4 @@
-use Rattle.std.proofs.Common.{◌≡◌, ◌≤◌, ◌*◌, ◌^◌, map, sum, take}
-use Rattle.cmd_show.specs.LinksShown.{area_links}
+use Rattle.{std.proofs.Common.{◌≡◌, ◌≤◌, ◌*◌, ◌^◌, map, sum, take}, cmd_show.specs.LinksShown.area_links}
 use Rattle.cmd_show.proofs.links_text.count_links.Given as goal
 
 abbrev pub invariant-areas : goal.invariant-areas

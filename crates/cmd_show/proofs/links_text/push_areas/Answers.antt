@@ -1,6 +1,4 @@
-use Rattle.std.proofs.Common.{arith}
-use Rattle.cmd_show.specs.LinksShown.{area_line}
-use Rattle.cmd_status.proofs.Lines.{flat_more}
+use Rattle.{std.proofs.Common.arith, cmd_show.specs.LinksShown.area_line, cmd_status.proofs.Lines.flat_more}
 use Rattle.cmd_show.proofs.links_text.push_areas.Goals as goal
 
 pub areas-preserved : goal.areas-preserved

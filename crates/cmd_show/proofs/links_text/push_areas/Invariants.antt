@@ -1,5 +1,4 @@
-use Rattle.std.{proofs.Common.{◌≡◌, ◌++◌, take}, specs.List.flat_map}
-use Rattle.cmd_show.specs.LinksShown.{area_line}
+use Rattle.{std.{proofs.Common.{◌≡◌, ◌++◌, take}, specs.List.flat_map}, cmd_show.specs.LinksShown.area_line}
 use Rattle.cmd_show.proofs.links_text.push_areas.Given as goal
 
 abbrev pub invariant-areas : goal.invariant-areas

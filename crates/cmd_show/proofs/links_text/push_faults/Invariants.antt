@@ -1,5 +1,4 @@
-use Rattle.std.{proofs.Common.{◌≡◌, ◌++◌, take}, specs.List.flat_map}
-use Rattle.cmd_show.specs.LinksShown.{faulty_text}
+use Rattle.{std.{proofs.Common.{◌≡◌, ◌++◌, take}, specs.List.flat_map}, cmd_show.specs.LinksShown.faulty_text}
 use Rattle.cmd_show.proofs.links_text.push_faults.Given as goal
 
 abbrev pub invariant-faults : goal.invariant-faults

@@ -1,7 +1,5 @@
-use Rattle.std.proofs.{Common.◌∙◌, Common.◌++◌, Common.ℕ, Common.ap, Common.option_copied, Common.arith, lemmas.Result.err_from_is_err_and}
-use Rattle.cmd_print.specs.BaseListed.{total_text}
-use Rattle.cmd_status.{specs.Devices.output_of, proofs.Lines.none_begun}
-use Rattle.cmd_show.proofs.Listings.{base_listed, base_unlisted, listing_begun}
+use Rattle.{std.proofs.{Common.{◌∙◌, ◌++◌, ℕ, ap, option_copied, arith}, lemmas.Result.err_from_is_err_and}, cmd_print.specs.BaseListed.total_text}
+use Rattle.{cmd_status.{specs.Devices.output_of, proofs.Lines.none_begun}, cmd_show.proofs.Listings.{base_listed, base_unlisted, listing_begun}}
 use Rattle.cmd_show.proofs.listing.list.Goals as goal
 
 pub returns-in_err-area : goal.returns-in_err-area

@@ -1,10 +1,8 @@
-use Rattle.std.proofs.Common.{◌∙◌, ◌≤◌, ◌+◌, ◌++◌, ℕ, length, option_copied, subst, arith}
-use Rattle.base_folder.proofs.{Lookings.err_is, Readings.not_behind, Readings.not_past}
-use Rattle.cmd_print.specs.BaseListed.{asked_text}
-use Rattle.cmd_status.specs.Lines.{PassesOn, WritesFront}
-use Rattle.cmd_show.proofs.{Fetchings.stops_reading, Listings.begun_before, Listings.message_begun, Listings.message_printed, Listings.printed_none}
-use Rattle.cmd_show.proofs.listing.print_messages.Goals as goal
+use Rattle.{std.proofs.Common.{◌∙◌, ◌≤◌, ◌+◌, ◌++◌, ℕ, length, option_copied, subst, arith}, base_folder.proofs.Lookings.err_is}
+use Rattle.{base_folder.proofs.Readings.{not_behind, not_past}, cmd_print.specs.BaseListed.asked_text, cmd_status.specs.Lines.{PassesOn, WritesFront}}
+use Rattle.cmd_show.proofs.{Fetchings.stops_reading, Listings.{begun_before, message_begun, message_printed, printed_none}}
 use Rattle.base_folder_store.proofs.Causes.{at_error}
+use Rattle.cmd_show.proofs.listing.print_messages.Goals as goal
 
 pub messages-init : goal.messages-init
 messages-init g c = grind (arith, not_behind, printed_none, not_past)

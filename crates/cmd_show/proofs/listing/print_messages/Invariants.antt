@@ -1,7 +1,4 @@
-use Rattle.std.proofs.Common.{◌≡◌, ◌≤◌, ◌++◌}
-use Rattle.base_file.specs.Base.{Base}
-use Rattle.cmd_status.specs.Lines.{PassesOn}
-use Rattle.cmd_print.specs.BaseListed.{messages_text}
+use Rattle.{std.proofs.Common.{◌≡◌, ◌≤◌, ◌++◌}, base_file.specs.Base.Base, cmd_status.specs.Lines.PassesOn, cmd_print.specs.BaseListed.messages_text}
 use Rattle.cmd_show.proofs.listing.print_messages.Given as goal
 
 abbrev pub invariant-messages : goal.invariant-messages

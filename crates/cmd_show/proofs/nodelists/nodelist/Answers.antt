@@ -1,5 +1,4 @@
-use Rattle.std.proofs.{Common.arith, lemmas.Result.err_from_is_err_and}
-use Rattle.cmd_status.specs.Devices.{output_of}
+use Rattle.{std.proofs.{Common.arith, lemmas.Result.err_from_is_err_and}, cmd_status.specs.Devices.output_of}
 use Rattle.cmd_show.proofs.Entries.{list_printed, list_stopped, list_unprinted, read_refused}
 use Rattle.cmd_show.proofs.nodelists.nodelist.Goals as goal
 

@@ -1,9 +1,7 @@
-use Rattle.std.proofs.Common.{◌≡◌, ◌++◌, ℕ, ap, arith, length, refl, subst}
-use Rattle.cmd_status.{specs.Lines.PassesOn, proofs.Lines.none_added}
-use Rattle.cmd_print.specs.Listed.{listed_entries}
-use Rattle.cmd_show.proofs.Entries.{entry_begun, printed_more, rest_begun, total_added}
-use Rattle.cmd_show.proofs.nodelists.print_entries.Goals as goal
+use Rattle.{std.proofs.Common.{◌≡◌, ◌++◌, ℕ, ap, arith, length, refl, subst}, cmd_status.{specs.Lines.PassesOn, proofs.Lines.none_added}}
+use Rattle.{cmd_print.specs.Listed.listed_entries, cmd_show.proofs.Entries.{entry_begun, printed_more, rest_begun, total_added}}
 use Rattle.base_folder_store.proofs.Causes.{at_error}
+use Rattle.cmd_show.proofs.nodelists.print_entries.Goals as goal
 
 pub entries-init : goal.entries-init
 entries-init g c = record { printed = none_added _ _; failed = refl }

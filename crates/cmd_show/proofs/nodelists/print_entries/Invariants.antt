@@ -1,6 +1,4 @@
-use Rattle.std.proofs.Common.{◌≡◌, ◌++◌}
-use Rattle.cmd_status.specs.Lines.{PassesOn}
-use Rattle.cmd_print.specs.Listed.{listed_entries}
+use Rattle.{std.proofs.Common.{◌≡◌, ◌++◌}, cmd_status.specs.Lines.PassesOn, cmd_print.specs.Listed.listed_entries}
 use Rattle.cmd_show.proofs.nodelists.print_entries.Given as goal
 
 abbrev pub invariant-entries : goal.invariant-entries

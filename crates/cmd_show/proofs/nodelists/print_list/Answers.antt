@@ -1,6 +1,5 @@
-use Rattle.std.proofs.{Common.arith, lemmas.Result.err_from_is_err_and, lemmas.Result.on_ok_weaker}
-use Rattle.cmd_status.specs.Devices.{output_of}
-use Rattle.cmd_show.proofs.{Entries.list_stops, Entries.listed_lines, Pushed.pushed_adds}
+use Rattle.{std.proofs.{Common.arith, lemmas.Result.{err_from_is_err_and, on_ok_weaker}}, cmd_status.specs.Devices.output_of}
+use Rattle.cmd_show.proofs.{Entries.{list_stops, listed_lines}, Pushed.pushed_adds}
 use Rattle.cmd_show.proofs.nodelists.print_list.Goals as goal
 
 pub returns-in_err-push_crc-clause-err : goal.returns-in_err-push_crc-clause-err

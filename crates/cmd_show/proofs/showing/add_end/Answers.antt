@@ -1,7 +1,5 @@
-use Rattle.std.proofs.Common.{refl}
-use Rattle.cmd_show.proofs.Pushed.{added_behind}
+use Rattle.{std.proofs.Common.refl, cmd_show.proofs.Pushed.added_behind, base_folder_store.proofs.Causes.at_error}
 use Rattle.cmd_show.proofs.showing.add_end.Goals as goal
-use Rattle.base_folder_store.proofs.Causes.{at_error}
 
 pub returns-in_err-push_end-clause-kept : goal.returns-in_err-push_end-clause-kept
 returns-in_err-push_end-clause-kept c = at_error c.from_residual.result refl

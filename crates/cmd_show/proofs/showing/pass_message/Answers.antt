@@ -1,5 +1,4 @@
-use Rattle.std.proofs.{Common.arith, lemmas.Result.err_from_is_err_and}
-use Rattle.cmd_show.proofs.{Printed.message_passed, Pushed.added_behind}
+use Rattle.{std.proofs.{Common.arith, lemmas.Result.err_from_is_err_and}, cmd_show.proofs.{Printed.message_passed, Pushed.added_behind}}
 use Rattle.cmd_show.proofs.showing.pass_message.Goals as goal
 
 pub returns-in_err-push_message : goal.returns-in_err-push_message

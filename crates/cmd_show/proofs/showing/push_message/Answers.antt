@@ -1,5 +1,4 @@
-use Rattle.std.proofs.{Common.arith, lemmas.Result.on_ok_weaker}
-use Rattle.cmd_show.proofs.Saying.{message_shown, text_has_no_zero}
+use Rattle.{std.proofs.{Common.arith, lemmas.Result.on_ok_weaker}, cmd_show.proofs.Saying.{message_shown, text_has_no_zero}}
 use Rattle.cmd_show.proofs.showing.push_message.Goals as goal
 
 pub push_said-requires : goal.push_said-requires

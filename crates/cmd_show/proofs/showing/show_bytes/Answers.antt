@@ -1,6 +1,4 @@
-use Rattle.std.proofs.lemmas.Result.{err_from_is_err_and}
-use Rattle.cmd_status.specs.Devices.{output_of}
-use Rattle.cmd_show.proofs.Answering.{all_shown, not_shown}
+use Rattle.{std.proofs.lemmas.Result.err_from_is_err_and, cmd_status.specs.Devices.output_of, cmd_show.proofs.Answering.{all_shown, not_shown}}
 use Rattle.cmd_show.proofs.showing.show_bytes.Goals as goal
 
 pub returns-in_err-print_rest : goal.returns-in_err-print_rest

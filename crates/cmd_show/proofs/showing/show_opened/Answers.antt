@@ -1,6 +1,5 @@
-use Rattle.std.proofs.{Common.◌+◌, Common.◌++◌, Common.◌∷◌, Common.[], Common.refl, Common.◌∙◌, Common.arith, lemmas.Result.err_from_is_err_and}
-use Rattle.echo_packet.{specs.Header.header_bytes, proofs.Slices.{slice-opens, slice-gives, slice-ends}}
-use Rattle.cmd_status.specs.{Devices.output_of, Limits.show_limits}
+use Rattle.{std.proofs.{Common.{◌+◌, ◌++◌, ◌∷◌, [], refl, ◌∙◌, arith}, lemmas.Result.err_from_is_err_and}, echo_packet.specs.Header.header_bytes}
+use Rattle.{echo_packet.proofs.Slices.{slice-opens, slice-gives, slice-ends}, cmd_status.specs.{Devices.output_of, Limits.show_limits}}
 use Rattle.cmd_show.proofs.Printed.{end_printed, header_printed, message_printed, message_refused, message_stops, no_header, no_memory, shorter}
 use Rattle.cmd_show.proofs.showing.show_opened.Goals as goal
 

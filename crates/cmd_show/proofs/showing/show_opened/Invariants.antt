@@ -1,6 +1,4 @@
-use Rattle.std.proofs.Common.{◌≡◌, ◌++◌, length}
-use Rattle.echo_packet.specs.Header.{header_bytes}
-use Rattle.cmd_show.proofs.Printed.{HasPrinted}
+use Rattle.{std.proofs.Common.{◌≡◌, ◌++◌, length}, echo_packet.specs.Header.header_bytes, cmd_show.proofs.Printed.HasPrinted}
 use Rattle.cmd_show.proofs.showing.show_opened.Given as goal
 
 abbrev pub invariant-messages : goal.invariant-messages

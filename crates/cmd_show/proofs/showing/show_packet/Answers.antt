@@ -1,5 +1,4 @@
-use Rattle.std.proofs.{Common.length, Common.ap, Common.arith, lemmas.Result.err_from_is_err_and}
-use Rattle.cmd_show.proofs.Printed.{front_refused, never_read}
+use Rattle.{std.proofs.{Common.{length, ap, arith}, lemmas.Result.err_from_is_err_and}, cmd_show.proofs.Printed.{front_refused, never_read}}
 use Rattle.cmd_show.proofs.showing.show_packet.Goals as goal
 
 pub returns-in_err-reader : goal.returns-in_err-reader

@@ -1,5 +1,4 @@
-use Rattle.std.proofs.Common.{subst, sym}
-use Rattle.echo_links.{specs.LinkReading.IsWordOf, proofs.LinkBytes.word_read}
+use Rattle.{std.proofs.Common.{subst, sym}, echo_links.{specs.LinkReading.IsWordOf, proofs.LinkBytes.word_read}}
 use Rattle.cmd_show.proofs.words.address.Goals as goal
 
 pub returns : goal.returns

@@ -1,5 +1,4 @@
-use Rattle.std.proofs.{Common.arith, Common.ap, Common.sym, Common.◌∙◌, lemmas.Bool.cond-false, lemmas.Bool.cond-true}
-use Rattle.cmd_show.specs.FaultyLines.{word_with_control}
+use Rattle.{std.proofs.{Common.{arith, ap, sym, ◌∙◌}, lemmas.Bool.{cond-false, cond-true}}, cmd_show.specs.FaultyLines.word_with_control}
 use Rattle.cmd_show.proofs.words.word_with_control.Goals as goal
 
 pub returns-then-has_control_byte : goal.returns-then-has_control_byte

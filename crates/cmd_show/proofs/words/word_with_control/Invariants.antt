@@ -1,6 +1,4 @@
-use Rattle.std.proofs.Common.{◌≡◌, length}
-use Rattle.echo_addr.specs.Entries.{tokens}
-use Rattle.cmd_show.specs.FaultyLines.{word_with_control}
+use Rattle.{std.proofs.Common.{◌≡◌, length}, echo_addr.specs.Entries.tokens, cmd_show.specs.FaultyLines.word_with_control}
 use Rattle.cmd_show.proofs.words.word_with_control.Given as goal
 
 abbrev pub invariant-words : goal.invariant-words

@@ -1,7 +1,5 @@
-use Rattle.std.{proofs.{Common.{◌∙◌, arith, sym}, lemmas.Bool.{not-false, not-true}}, specs.{List.list_any, Ordering.is_eq}}
-use Rattle.echo_addr.specs.Entries.{tokens}
-use Rattle.echo_links.specs.Found.{address_order}
-use Rattle.cmd_show.proofs.WrongWords.{link_bad, link_repeated, link_seen, links_right, links_unseen}
+use Rattle.{std.{proofs.{Common.{◌∙◌, arith, sym}, lemmas.Bool.{not-false, not-true}}, specs.{List.list_any, Ordering.is_eq}}, echo_addr.specs.Entries.tokens}
+use Rattle.{echo_links.specs.Found.address_order, cmd_show.proofs.WrongWords.{link_bad, link_repeated, link_seen, links_right, links_unseen}}
 use Rattle.cmd_show.proofs.words.wrong_link.Goals as goal
 
 pub links-init : goal.links-init

@@ -1,6 +1,4 @@
-use Rattle.std.proofs.Common.{length}
-use Rattle.echo_addr.specs.Entries.{tokens}
-use Rattle.cmd_show.proofs.WrongWords.{LinksSeen}
+use Rattle.{std.proofs.Common.length, echo_addr.specs.Entries.tokens, cmd_show.proofs.WrongWords.LinksSeen}
 use Rattle.cmd_show.proofs.words.wrong_link.Given as goal
 
 abbrev pub invariant-links : goal.invariant-links

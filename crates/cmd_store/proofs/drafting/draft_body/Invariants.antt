@@ -1,5 +1,4 @@
-use Rattle.std.proofs.Common.{◌≡◌, ◌++◌, drop}
-use Rattle.cmd_store.specs.Drafts.{draft_after, draft_body}
+use Rattle.{std.proofs.Common.{◌≡◌, ◌++◌, drop}, cmd_store.specs.Drafts.{draft_after, draft_body}}
 use Rattle.cmd_store.proofs.drafting.draft_body.Given as goal
 
 abbrev pub invariant-bytes : goal.invariant-bytes

@@ -1,6 +1,5 @@
-use Rattle.std.proofs.{Common.arith, lemmas.Result.err_from_is_err_and}
-use Rattle.base_store.proofs.Runs.{no_look}
-use Rattle.cmd_store.proofs.{Commits.looks_may, Commits.only_store, Printed.printed_then}
+use Rattle.{std.proofs.{Common.arith, lemmas.Result.err_from_is_err_and}, base_store.proofs.Runs.no_look, cmd_store.proofs.Commits.{looks_may, only_store}}
+use Rattle.cmd_store.proofs.Printed.{printed_then}
 use Rattle.cmd_store.proofs.leaving.leave.Goals as goal
 
 pub returns-in_err-print_rest-clause-printed : goal.returns-in_err-print_rest-clause-printed

@@ -1,5 +1,4 @@
-use Rattle.std.proofs.Common.{◌≡◌, ◌++◌, List, ℕ, OnOk, subst}
-use Rattle.cmd_store.proofs.Noted.{said_area}
+use Rattle.{std.proofs.Common.{◌≡◌, ◌++◌, List, ℕ, OnOk, subst}, cmd_store.proofs.Noted.said_area}
 use Rattle.cmd_store.proofs.note.push_said.Goals as goal
 
 pub returns-in-Ok : goal.returns-in-Ok

@@ -1,5 +1,4 @@
-use Rattle.std.{proofs.Common.{◌≡◌, ◌++◌, take}, specs.List.flat_map}
-use Rattle.cmd_store.specs.PacketLines.{counted_line}
+use Rattle.{std.{proofs.Common.{◌≡◌, ◌++◌, take}, specs.List.flat_map}, cmd_store.specs.PacketLines.counted_line}
 use Rattle.cmd_store.proofs.packet_lines.push_counted.Given as goal
 
 abbrev pub invariant-packets : goal.invariant-packets

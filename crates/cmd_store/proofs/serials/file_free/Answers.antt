@@ -1,6 +1,5 @@
-use Rattle.std.proofs.{Common.arith, lemmas.Result.err_from_is_err_and}
+use Rattle.{std.proofs.{Common.arith, lemmas.Result.err_from_is_err_and}, echo_toss.proofs.Bounds.{past_looked, past_wider}}
 use Rattle.cmd_store.proofs.FreePostings.{filed_first, looks_known, none_looked, one_more_looked, refused_known, refused_on, sound_known}
-use Rattle.echo_toss.proofs.Bounds.{past_looked, past_wider}
 use Rattle.cmd_store.proofs.serials.file_free.Goals as goal
 
 pub serials-init : goal.serials-init

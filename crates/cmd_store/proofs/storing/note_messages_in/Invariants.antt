@@ -1,5 +1,4 @@
-use Rattle.std.proofs.Common.{◌-◌}
-use Rattle.cmd_store.{specs.Lines.HasTallyRoom, proofs.NotedIn.HasNotedIn}
+use Rattle.{std.proofs.Common.◌-◌, cmd_store.{specs.Lines.HasTallyRoom, proofs.NotedIn.HasNotedIn}}
 use Rattle.cmd_store.proofs.storing.note_messages_in.Given as goal
 
 abbrev pub invariant-messages : goal.invariant-messages

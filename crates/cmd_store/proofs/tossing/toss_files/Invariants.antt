@@ -1,7 +1,5 @@
 -- The remaining files have the same effect as all files.
-use Rattle.std.proofs.Common.{length}
-use Rattle.cmd_status.specs.Devices.{device_of}
-use Rattle.cmd_store.proofs.TossedFiles.{HasTossedFiles}
+use Rattle.{std.proofs.Common.length, cmd_status.specs.Devices.device_of, cmd_store.proofs.TossedFiles.HasTossedFiles}
 use Rattle.cmd_store.proofs.tossing.toss_files.Given as goal
 
 abbrev pub invariant-files : goal.invariant-files

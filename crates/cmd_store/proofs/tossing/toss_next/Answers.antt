@@ -1,6 +1,5 @@
-use Rattle.std.proofs.Common.{true, false, refl}
-use Rattle.cmd_status.specs.Devices.{device_of}
-use Rattle.cmd_store.proofs.{Tosses.next_from, Tosses.next_tossed, Tosses.next_unread, Bounded.reports_many}
+use Rattle.{std.proofs.Common.{true, false, refl}, cmd_status.specs.Devices.device_of, cmd_store.proofs.Tosses.{next_from, next_tossed, next_unread}}
+use Rattle.cmd_store.proofs.Bounded.{reports_many}
 use Rattle.cmd_store.proofs.tossing.toss_next.Goals as goal
 
 pub returns-then-is_err-clause-tossed : goal.returns-then-is_err-clause-tossed

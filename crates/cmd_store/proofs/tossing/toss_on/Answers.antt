@@ -1,7 +1,5 @@
-use Rattle.std.proofs.{Common.arith, lemmas.Result.err_from_is_err_and}
-use Rattle.cmd_status.specs.Devices.{device_of}
-use Rattle.cmd_store.proofs.{Commits.makes_then, Runs.none_before, Runs.tosses, Bounded.full_after}
-use Rattle.echo_toss.proofs.Bounds.{handed_many}
+use Rattle.{std.proofs.{Common.arith, lemmas.Result.err_from_is_err_and}, cmd_status.specs.Devices.device_of, cmd_store.proofs.Commits.makes_then}
+use Rattle.{cmd_store.proofs.{Runs.{none_before, tosses}, Bounded.full_after}, echo_toss.proofs.Bounds.handed_many}
 use Rattle.cmd_store.proofs.tossing.toss_on.Goals as goal
 
 pub returns-in_err-commit-clause-crash : goal.returns-in_err-commit-clause-crash

@@ -1,5 +1,4 @@
-use Rattle.std.{proofs.Common.{◌≡◌, ◌++◌, take}, specs.List.flat_map}
-use Rattle.cmd_suppose.specs.Assuming.{assumed_line}
+use Rattle.{std.{proofs.Common.{◌≡◌, ◌++◌, take}, specs.List.flat_map}, cmd_suppose.specs.Assuming.assumed_line}
 use Rattle.cmd_suppose.proofs.assuming.push_assumed_lines.Given as goal
 
 abbrev pub invariant-assumed : goal.invariant-assumed

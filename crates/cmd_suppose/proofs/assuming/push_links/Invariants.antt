@@ -1,5 +1,4 @@
-use Rattle.std.{proofs.Common.{◌≡◌, ◌++◌, take}, specs.List.flat_map}
-use Rattle.cmd_suppose.specs.Assuming.{link_word}
+use Rattle.{std.{proofs.Common.{◌≡◌, ◌++◌, take}, specs.List.flat_map}, cmd_suppose.specs.Assuming.link_word}
 use Rattle.cmd_suppose.proofs.assuming.push_links.Given as goal
 
 abbrev pub invariant-links : goal.invariant-links

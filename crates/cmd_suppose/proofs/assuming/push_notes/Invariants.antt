@@ -1,5 +1,4 @@
-use Rattle.std.{proofs.Common.{◌≡◌, ◌++◌, take}, specs.List.flat_map}
-use Rattle.cmd_suppose.specs.Assuming.{assumed_note}
+use Rattle.{std.{proofs.Common.{◌≡◌, ◌++◌, take}, specs.List.flat_map}, cmd_suppose.specs.Assuming.assumed_note}
 use Rattle.cmd_suppose.proofs.assuming.push_notes.Given as goal
 
 abbrev pub invariant-assumed : goal.invariant-assumed

@@ -1,6 +1,4 @@
-use Rattle.std.proofs.Common.{Bool, arith, sym}
-use Rattle.echo_links.specs.Links.{Area, is_link}
-use Rattle.cmd_suppose.proofs.Leftovers.{any_here, none_here}
+use Rattle.{std.proofs.Common.{Bool, arith, sym}, echo_links.specs.Links.{Area, is_link}, cmd_suppose.proofs.Leftovers.{any_here, none_here}}
 use Rattle.cmd_suppose.proofs.leaving.is_listed.Goals as goal
 
 pub returns-then-lists_at : goal.returns-then-lists_at

@@ -1,6 +1,5 @@
 -- No area so far lists the address.
-use Rattle.std.{proofs.Common.{◌≡◌, false, take}, specs.List.list_any}
-use Rattle.echo_links.specs.Links.{is_link}
+use Rattle.{std.{proofs.Common.{◌≡◌, false, take}, specs.List.list_any}, echo_links.specs.Links.is_link}
 use Rattle.cmd_suppose.proofs.leaving.is_listed.Given as goal
 
 abbrev pub invariant-areas : goal.invariant-areas

@@ -1,5 +1,4 @@
-use Rattle.std.proofs.Common.{arith}
-use Rattle.echo_net.proofs.Collected.{links_found}
+use Rattle.{std.proofs.Common.arith, echo_net.proofs.Collected.links_found}
 use Rattle.cmd_suppose.proofs.leaving.links_in.Goals as goal
 
 pub returns-in-Some : goal.returns-in-Some

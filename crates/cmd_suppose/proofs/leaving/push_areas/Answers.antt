@@ -1,6 +1,4 @@
-use Rattle.std.proofs.Common.{arith}
-use Rattle.cmd_suppose.specs.Leaving.{area_left}
-use Rattle.cmd_status.proofs.Lines.{flat_more}
+use Rattle.{std.proofs.Common.arith, cmd_suppose.specs.Leaving.area_left, cmd_status.proofs.Lines.flat_more}
 use Rattle.cmd_suppose.proofs.leaving.push_areas.Goals as goal
 
 pub areas-preserved : goal.areas-preserved

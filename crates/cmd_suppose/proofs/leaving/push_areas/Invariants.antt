@@ -1,5 +1,4 @@
-use Rattle.std.{proofs.Common.{◌≡◌, ◌++◌, take}, specs.List.flat_map}
-use Rattle.cmd_suppose.specs.Leaving.{area_left}
+use Rattle.{std.{proofs.Common.{◌≡◌, ◌++◌, take}, specs.List.flat_map}, cmd_suppose.specs.Leaving.area_left}
 use Rattle.cmd_suppose.proofs.leaving.push_areas.Given as goal
 
 abbrev pub invariant-areas : goal.invariant-areas

@@ -1,5 +1,4 @@
-use Rattle.std.proofs.Common.{◌≡◌, filter, take}
-use Rattle.cmd_suppose.specs.Leaving.{stays}
+use Rattle.{std.proofs.Common.{◌≡◌, filter, take}, cmd_suppose.specs.Leaving.stays}
 use Rattle.cmd_suppose.proofs.leaving.staying.Given as goal
 
 abbrev pub invariant-all : goal.invariant-all

@@ -1,5 +1,4 @@
-use Rattle.std.proofs.Common.{◌≡◌, take}
-use Rattle.cmd_suppose.specs.Leaving.{texts_left}
+use Rattle.{std.proofs.Common.{◌≡◌, take}, cmd_suppose.specs.Leaving.texts_left}
 use Rattle.cmd_suppose.proofs.leaving.texts_left.Given as goal
 
 abbrev pub invariant-files : goal.invariant-files

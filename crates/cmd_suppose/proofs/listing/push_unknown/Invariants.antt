@@ -1,5 +1,4 @@
-use Rattle.std.proofs.Common.{◌≡◌, ◌++◌, take}
-use Rattle.cmd_suppose.specs.Listings.{unknown_from}
+use Rattle.{std.proofs.Common.{◌≡◌, ◌++◌, take}, cmd_suppose.specs.Listings.unknown_from}
 use Rattle.cmd_suppose.proofs.listing.push_unknown.Given as goal
 
 abbrev pub invariant-backs : goal.invariant-backs

@@ -1,5 +1,4 @@
-use Rattle.std.{proofs.Common.{◌≡◌, take}, specs.List.flat_map}
-use Rattle.cmd_suppose.specs.Listings.{unknown_from}
+use Rattle.{std.{proofs.Common.{◌≡◌, take}, specs.List.flat_map}, cmd_suppose.specs.Listings.unknown_from}
 use Rattle.cmd_suppose.proofs.listing.unknown.Given as goal
 
 abbrev pub invariant-listings : goal.invariant-listings

@@ -1,7 +1,5 @@
-use Rattle.std.proofs.Common.{◌+◌, ℕ, List, subst, sym}
-use Rattle.echo_addr.specs.declared.address.Address.{Address}
-use Rattle.cmd_suppose.{specs.Parts.{AreGrouped, IsGroup}, proofs.Groups.{group_listed, group_more, group_same}}
-use Rattle.cmd_suppose.proofs.parts.grouped.Goals.{then-labels-place+in_ok-part+in_ok-push, else-labels-place}
+use Rattle.{std.proofs.Common.{◌+◌, ℕ, List, subst, sym}, echo_addr.specs.declared.address.Address.Address, cmd_suppose.specs.Parts.{AreGrouped, IsGroup}}
+use Rattle.cmd_suppose.proofs.{Groups.{group_listed, group_more, group_same}, parts.grouped.Goals.{then-labels-place+in_ok-part+in_ok-push, else-labels-place}}
 use Rattle.cmd_suppose.proofs.parts.grouped.Goals as goal
 
 pub places-preserved : goal.places-preserved

@@ -1,6 +1,5 @@
 -- The links so far are settled.
-use Rattle.std.proofs.Common.{◌≡◌, Bool, length, take}
-use Rattle.echo_addr.specs.declared.address.Address.{Address}
+use Rattle.{std.proofs.Common.{◌≡◌, Bool, length, take}, echo_addr.specs.declared.address.Address.Address}
 use Rattle.cmd_suppose.specs.Parts.{AreBothWays, AreLabels, AreSettled}
 use Rattle.cmd_suppose.proofs.parts.labels.Given as goal
 

@@ -1,6 +1,5 @@
 -- The labels so far are relabeled, and the others unchanged.
-use Rattle.std.proofs.Common.{◌≡◌, ◌<◌, ◌≤◌, ℕ, get_or, length}
-use Rattle.cmd_suppose.specs.Parts.{relabeled}
+use Rattle.{std.proofs.Common.{◌≡◌, ◌<◌, ◌≤◌, ℕ, get_or, length}, cmd_suppose.specs.Parts.relabeled}
 use Rattle.cmd_suppose.proofs.parts.relabel.Given as goal
 
 abbrev pub invariant-places : goal.invariant-places

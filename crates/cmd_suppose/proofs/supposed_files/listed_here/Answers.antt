@@ -1,7 +1,5 @@
-use Rattle.std.proofs.{Common.List, Common.get_or, Common.sym, lemmas.List.get_or_default}
-use Rattle.echo_addr.specs.declared.address.Address.{Address}
-use Rattle.echo_links.specs.LinkLines.{no_address}
-use Rattle.cmd_suppose.{specs.Listings.is_listed, proofs.Zips.kept_next}
+use Rattle.{std.proofs.{Common.{List, get_or, sym}, lemmas.List.get_or_default}, echo_addr.specs.declared.address.Address.Address}
+use Rattle.{echo_links.specs.LinkLines.no_address, cmd_suppose.{specs.Listings.is_listed, proofs.Zips.kept_next}}
 use Rattle.cmd_suppose.proofs.supposed_files.listed_here.Goals as goal
 
 pub assumed-preserved : goal.assumed-preserved

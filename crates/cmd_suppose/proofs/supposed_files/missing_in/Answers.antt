@@ -1,5 +1,4 @@
-use Rattle.std.proofs.Common.{Bool, subst, sym}
-use Rattle.cmd_suppose.{specs.SupposedFiles.AreMissing, proofs.SupposedTexts.were_missing}
+use Rattle.{std.proofs.Common.{Bool, subst, sym}, cmd_suppose.{specs.SupposedFiles.AreMissing, proofs.SupposedTexts.were_missing}}
 use Rattle.cmd_suppose.proofs.supposed_files.missing_in.Goals as goal
 
 pub returns-in_ok-all : goal.returns-in_ok-all

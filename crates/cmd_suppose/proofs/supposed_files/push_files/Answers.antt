@@ -1,7 +1,5 @@
-use Rattle.std.proofs.{Common.List, Common.get_or, Common.sym, lemmas.List.get_or_default}
-use Rattle.echo_addr.specs.declared.address.Address.{Address}
-use Rattle.echo_links.specs.LinkLines.{no_address}
-use Rattle.cmd_suppose.proofs.SupposedTexts.{next_added, none_added}
+use Rattle.{std.proofs.{Common.{List, get_or, sym}, lemmas.List.get_or_default}, echo_addr.specs.declared.address.Address.Address}
+use Rattle.{echo_links.specs.LinkLines.no_address, cmd_suppose.proofs.SupposedTexts.{next_added, none_added}}
 use Rattle.cmd_suppose.proofs.supposed_files.push_files.Goals as goal
 
 pub assumed-init : goal.assumed-init

@@ -1,6 +1,5 @@
 -- The link files of the systems so far are added.
-use Rattle.std.proofs.Common.{take}
-use Rattle.cmd_suppose.specs.SupposedFiles.{AddsSupposed}
+use Rattle.{std.proofs.Common.take, cmd_suppose.specs.SupposedFiles.AddsSupposed}
 use Rattle.cmd_suppose.proofs.supposed_files.push_files.Given as goal
 
 abbrev pub invariant-assumed : goal.invariant-assumed

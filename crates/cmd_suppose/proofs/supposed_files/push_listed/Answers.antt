@@ -1,5 +1,4 @@
-use Rattle.std.proofs.Common.{◌∙◌, sym}
-use Rattle.cmd_suppose.{specs.Listings.is_listed, proofs.Zips.{kept_one, lost_one}}
+use Rattle.{std.proofs.Common.{◌∙◌, sym}, cmd_suppose.{specs.Listings.is_listed, proofs.Zips.{kept_one, lost_one}}}
 use Rattle.cmd_suppose.proofs.supposed_files.push_listed.Goals as goal
 
 pub returns-in_ok-push : goal.returns-in_ok-push

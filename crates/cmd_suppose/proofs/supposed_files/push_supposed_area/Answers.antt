@@ -1,5 +1,4 @@
-use Rattle.std.proofs.Common.{◌∙◌, sym}
-use Rattle.cmd_suppose.proofs.SupposedTexts.{no_line, one_line}
+use Rattle.{std.proofs.Common.{◌∙◌, sym}, cmd_suppose.proofs.SupposedTexts.{no_line, one_line}}
 use Rattle.cmd_suppose.proofs.supposed_files.push_supposed_area.Goals as goal
 
 pub returns-in_ok-push_area : goal.returns-in_ok-push_area

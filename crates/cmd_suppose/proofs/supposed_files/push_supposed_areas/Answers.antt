@@ -1,5 +1,4 @@
-use Rattle.std.proofs.Common.{arith}
-use Rattle.cmd_suppose.{specs.Listings.IsListing, proofs.{SupposedTexts.{lines_begun, lines_next}, Zips.{zip_length, zip_read}}}
+use Rattle.{std.proofs.Common.arith, cmd_suppose.{specs.Listings.IsListing, proofs.{SupposedTexts.{lines_begun, lines_next}, Zips.{zip_length, zip_read}}}}
 use Rattle.cmd_suppose.proofs.supposed_files.push_supposed_areas.Goals as goal
 
 pub areas-init : goal.areas-init

@@ -1,7 +1,5 @@
 -- The lines of the areas so far are added.
-use Rattle.std.proofs.Common.{take}
-use Rattle.cmd_print.specs.Pushed.{Pushes}
-use Rattle.cmd_suppose.specs.SupposedFiles.{AreSupposedLines}
+use Rattle.{std.proofs.Common.take, cmd_print.specs.Pushed.Pushes, cmd_suppose.specs.SupposedFiles.AreSupposedLines}
 use Rattle.cmd_suppose.proofs.supposed_files.push_supposed_areas.Given as goal
 
 abbrev pub invariant-areas : goal.invariant-areas

@@ -1,5 +1,4 @@
-use Rattle.std.proofs.Common.{arith, append_assoc, append-nil}
-use Rattle.cmd_suppose.proofs.SupposedTexts.{few_unseen, many_unseen}
+use Rattle.{std.proofs.Common.{arith, append_assoc, append-nil}, cmd_suppose.proofs.SupposedTexts.{few_unseen, many_unseen}}
 use Rattle.cmd_suppose.proofs.supposed_files.push_unseen_line.Goals as goal
 
 pub returns-then-unseen-lt2 : goal.returns-then-unseen-lt2

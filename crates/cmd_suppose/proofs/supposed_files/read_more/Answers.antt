@@ -1,5 +1,4 @@
-use Rattle.std.proofs.{Common.arith, lemmas.Result.err_from_is_err_and}
-use Rattle.cmd_status.proofs.Giving.{link_refused}
+use Rattle.{std.proofs.{Common.arith, lemmas.Result.err_from_is_err_and}, cmd_status.proofs.Giving.link_refused}
 use Rattle.cmd_suppose.proofs.SupposedTexts.{read_none, text_read}
 use Rattle.cmd_suppose.proofs.supposed_files.read_more.Goals as goal
 

@@ -1,5 +1,4 @@
-use Rattle.std.proofs.{Common.arith, lemmas.Result.err_from_is_err_and}
-use Rattle.cmd_suppose.proofs.SupposedTexts.{of_upper}
+use Rattle.{std.proofs.{Common.arith, lemmas.Result.err_from_is_err_and}, cmd_suppose.proofs.SupposedTexts.of_upper}
 use Rattle.cmd_suppose.proofs.supposed_files.suppose.Goals as goal
 
 pub returns-in_err-links-clause-err : goal.returns-in_err-links-clause-err

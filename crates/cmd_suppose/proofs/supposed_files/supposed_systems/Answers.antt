@@ -1,5 +1,4 @@
-use Rattle.std.proofs.Common.{arith}
-use Rattle.cmd_suppose.proofs.SupposedTexts.{were_supposed}
+use Rattle.{std.proofs.Common.arith, cmd_suppose.proofs.SupposedTexts.were_supposed}
 use Rattle.cmd_suppose.proofs.supposed_files.supposed_systems.Goals as goal
 
 pub returns : goal.returns

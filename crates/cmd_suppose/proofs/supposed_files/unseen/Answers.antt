@@ -1,5 +1,4 @@
-use Rattle.std.proofs.Common.{◌∙◌, sym}
-use Rattle.cmd_suppose.proofs.SupposedTexts.{none_unseen, not_so, were_unseen}
+use Rattle.{std.proofs.Common.{◌∙◌, sym}, cmd_suppose.proofs.SupposedTexts.{none_unseen, not_so, were_unseen}}
 use Rattle.cmd_suppose.proofs.supposed_files.unseen.Goals as goal
 
 pub returns-in_ok-unseen : goal.returns-in_ok-unseen

@@ -1,6 +1,4 @@
-use Rattle.std.proofs.Common.{◌+◌, arith, refl}
-use Rattle.echo_filed.specs.declared.key.Key.TheVariants.{ById}
-use Rattle.cmd_why.proofs.Bringing.{crossings-more}
+use Rattle.{std.proofs.Common.{◌+◌, arith, refl}, echo_filed.specs.declared.key.Key.TheVariants.ById, cmd_why.proofs.Bringing.crossings-more}
 use Rattle.cmd_why.proofs.carrying.crossings_to.Goals as goal
 
 pub packets-preserved : goal.packets-preserved

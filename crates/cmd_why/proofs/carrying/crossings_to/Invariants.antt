@@ -1,8 +1,5 @@
-use Rattle.std.proofs.Common.{◌≡◌, ◌++◌, drop}
-use Rattle.echo_filed.specs.declared.key.Key.TheVariants.{ById}
-use Rattle.model_replay.specs.Worlds.{IsWorldOf}
-use Rattle.model_run.specs.Run.{Run}
-use Rattle.cmd_why.specs.Carrying.{crossings_from}
+use Rattle.{std.proofs.Common.{◌≡◌, ◌++◌, drop}, echo_filed.specs.declared.key.Key.TheVariants.ById, model_replay.specs.Worlds.IsWorldOf}
+use Rattle.{model_run.specs.Run.Run, cmd_why.specs.Carrying.crossings_from}
 use Rattle.cmd_why.proofs.carrying.crossings_to.Given as goal
 
 abbrev pub invariant-packets : goal.invariant-packets

@@ -1,6 +1,4 @@
-use Rattle.std.proofs.Common.{◌∙◌, arith}
-use Rattle.echo_filed.specs.declared.key.Key.TheVariants.{ById}
-use Rattle.model_run.specs.Orderly.{origin}
+use Rattle.{std.proofs.Common.{◌∙◌, arith}, echo_filed.specs.declared.key.Key.TheVariants.ById, model_run.specs.Orderly.origin}
 use Rattle.cmd_why.proofs.Bringing.{sender-there}
 use Rattle.cmd_why.proofs.carrying.sender_in.Goals as goal
 

@@ -1,7 +1,6 @@
-use Rattle.std.proofs.Common.{◌≡◌, ◌+◌, ◌∙◌, refl, sym, Bool, true, false, cond, arith, take}
-use Rattle.echo_addr.specs.declared.address.Address.{Address}
-use Rattle.echo_filed.specs.declared.key.Key.TheVariants.{ById}
-use Rattle.cmd_why.proofs.{Counting.total, Counting.total-more, copies.count_copies.Goals.then-branch, copies.count_copies.Goals.else-branch}
+use Rattle.{std.proofs.Common.{◌≡◌, ◌+◌, ◌∙◌, refl, sym, Bool, true, false, cond, arith, take}, echo_addr.specs.declared.address.Address.Address}
+use Rattle.{echo_filed.specs.declared.key.Key.TheVariants.ById, cmd_why.proofs.Counting.{total, total-more}}
+use Rattle.cmd_why.proofs.copies.count_copies.Goals.{then-branch, else-branch}
 use Rattle.cmd_why.proofs.copies.count_copies.Goals as goal
 
 pub messages-preserved : goal.messages-preserved

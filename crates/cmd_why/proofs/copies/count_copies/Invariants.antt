@@ -1,6 +1,4 @@
-use Rattle.std.proofs.Common.{◌≡◌, ◌≤◌, take}
-use Rattle.echo_addr.specs.declared.address.Address.{Address}
-use Rattle.echo_filed.specs.declared.key.Key.TheVariants.{ById}
+use Rattle.{std.proofs.Common.{◌≡◌, ◌≤◌, take}, echo_addr.specs.declared.address.Address.Address, echo_filed.specs.declared.key.Key.TheVariants.ById}
 use Rattle.cmd_why.proofs.Counting.{total}
 use Rattle.cmd_why.proofs.copies.count_copies.Given as goal
 

@@ -1,6 +1,4 @@
-use Rattle.std.proofs.Common.{arith}
-use Rattle.echo_filed.proofs.Texts.{says_accepted, says_one}
-use Rattle.cmd_why.proofs.Counting.{has_key-received}
+use Rattle.{std.proofs.Common.arith, echo_filed.proofs.Texts.{says_accepted, says_one}, cmd_why.proofs.Counting.has_key-received}
 use Rattle.cmd_why.proofs.copies.is_copy.Goals as goal
 
 pub returns-in-Ok : goal.returns-in-Ok

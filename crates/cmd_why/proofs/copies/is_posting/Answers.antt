@@ -1,7 +1,4 @@
-use Rattle.std.proofs.Common.{◌∙◌, ap, sym}
-use Rattle.echo_filed.specs.Filed.{Filed}
-use Rattle.echo_text.specs.Echo.{EchoText, msgid_of}
-use Rattle.cmd_why.proofs.Judged.{is_posted}
+use Rattle.{std.proofs.Common.{◌∙◌, ap, sym}, echo_filed.specs.Filed.Filed, echo_text.specs.Echo.{EchoText, msgid_of}, cmd_why.proofs.Judged.is_posted}
 use Rattle.cmd_why.proofs.copies.is_posting.Goals as goal
 
 pub returns-in-None : goal.returns-in-None

@@ -1,6 +1,4 @@
-use Rattle.std.proofs.Common.{ap}
-use Rattle.echo_packet.specs.Answer.{Found}
-use Rattle.cmd_why.proofs.Counting.{same_parts}
+use Rattle.{std.proofs.Common.ap, echo_packet.specs.Answer.Found, cmd_why.proofs.Counting.same_parts}
 use Rattle.cmd_why.proofs.copies.parts_of.Goals as goal
 
 pub returns-in-Ok : goal.returns-in-Ok

@@ -1,8 +1,6 @@
-use Rattle.std.proofs.Common.{◌+◌, refl, arith}
-use Rattle.echo_filed.specs.declared.key.Key.TheVariants.{ById}
-use Rattle.cmd_why.proofs.Counting.{sent-more}
-use Rattle.cmd_why.proofs.copies.sent_times.Goals as goal
+use Rattle.{std.proofs.Common.{◌+◌, refl, arith}, echo_filed.specs.declared.key.Key.TheVariants.ById, cmd_why.proofs.Counting.sent-more}
 use Rattle.model_run.proofs.HarmLists.{nth-below as nth-there}
+use Rattle.cmd_why.proofs.copies.sent_times.Goals as goal
 
 pub packets-preserved : goal.packets-preserved
 packets-preserved c = λ run is.

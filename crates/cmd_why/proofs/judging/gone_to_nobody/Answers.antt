@@ -1,5 +1,4 @@
-use Rattle.std.proofs.Common.{arith}
-use Rattle.cmd_why.proofs.Judged.{to_nobody}
+use Rattle.{std.proofs.Common.arith, cmd_why.proofs.Judged.to_nobody}
 use Rattle.cmd_why.proofs.judging.gone_to_nobody.Goals as goal
 
 pub returns : goal.returns

@@ -1,5 +1,4 @@
-use Rattle.std.proofs.Common.{◌∙◌, ◌+◌, refl, sym, arith}
-use Rattle.cmd_why.proofs.Judged.{none-all, none-more}
+use Rattle.{std.proofs.Common.{◌∙◌, ◌+◌, refl, sym, arith}, cmd_why.proofs.Judged.{none-all, none-more}}
 use Rattle.cmd_why.proofs.judging.is_nobody.Goals as goal
 
 pub systems-preserved : goal.systems-preserved

@@ -1,6 +1,4 @@
-use Rattle.model_replay.specs.Worlds.{IsWorldOf}
-use Rattle.model_run.specs.Run.{Run}
-use Rattle.cmd_why.proofs.Judged.{NoneBefore}
+use Rattle.{model_replay.specs.Worlds.IsWorldOf, model_run.specs.Run.Run, cmd_why.proofs.Judged.NoneBefore}
 use Rattle.cmd_why.proofs.judging.is_nobody.Given as goal
 
 abbrev pub invariant-systems : goal.invariant-systems

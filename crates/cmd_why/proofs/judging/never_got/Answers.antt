@@ -1,5 +1,4 @@
-use Rattle.std.proofs.Common.{◌∙◌, sym, arith}
-use Rattle.cmd_why.proofs.Judged.{lacking-at}
+use Rattle.{std.proofs.Common.{◌∙◌, sym, arith}, cmd_why.proofs.Judged.lacking-at}
 use Rattle.cmd_why.proofs.judging.never_got.Goals as goal
 
 pub returns : goal.returns

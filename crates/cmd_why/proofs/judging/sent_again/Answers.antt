@@ -1,5 +1,4 @@
-use Rattle.std.proofs.Common.{sym}
-use Rattle.cmd_why.proofs.Judged.{again-at}
+use Rattle.{std.proofs.Common.sym, cmd_why.proofs.Judged.again-at}
 use Rattle.cmd_why.proofs.judging.sent_again.Goals as goal
 
 pub returns : goal.returns

@@ -1,5 +1,4 @@
-use Rattle.std.proofs.Common.{arith}
-use Rattle.cmd_why.proofs.Judged.{own-at}
+use Rattle.{std.proofs.Common.arith, cmd_why.proofs.Judged.own-at}
 use Rattle.cmd_why.proofs.judging.sent_own.Goals as goal
 
 pub returns : goal.returns

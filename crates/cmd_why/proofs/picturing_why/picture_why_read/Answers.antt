@@ -1,7 +1,5 @@
-use Rattle.std.proofs.Common.{None, refl}
-use Rattle.cmd_status.specs.{Devices.output_of, Inputs.IsFirstFaultGiven}
-use Rattle.cmd_check.{specs.Checking.IsCheckVerdict, proofs.Printing.printed_as}
-use Rattle.cmd_why.proofs.PicturesWhy.{was_pictured_why}
+use Rattle.{std.proofs.Common.{None, refl}, cmd_status.specs.{Devices.output_of, Inputs.IsFirstFaultGiven}, cmd_check.specs.Checking.IsCheckVerdict}
+use Rattle.{cmd_check.proofs.Printing.printed_as, cmd_why.proofs.PicturesWhy.was_pictured_why}
 use Rattle.cmd_why.proofs.picturing_why.picture_why_read.Goals as goal
 
 pub returns : goal.returns

@@ -1,5 +1,4 @@
-use Rattle.std.proofs.{Common.arith, lemmas.Result.err_from_is_err_and}
-use Rattle.cmd_why.proofs.Reasons.{were_pushed}
+use Rattle.{std.proofs.{Common.arith, lemmas.Result.err_from_is_err_and}, cmd_why.proofs.Reasons.were_pushed}
 use Rattle.cmd_why.proofs.reasoning.print_why.Goals as goal
 
 pub returns-in_err-print_rest : goal.returns-in_err-print_rest

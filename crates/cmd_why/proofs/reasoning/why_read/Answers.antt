@@ -1,6 +1,4 @@
-use Rattle.std.proofs.Common.{None, refl}
-use Rattle.cmd_status.specs.{Devices.output_of, Inputs.IsFirstFaultGiven}
-use Rattle.cmd_check.proofs.Printing.{printed_as}
+use Rattle.{std.proofs.Common.{None, refl}, cmd_status.specs.{Devices.output_of, Inputs.IsFirstFaultGiven}, cmd_check.proofs.Printing.printed_as}
 use Rattle.cmd_why.proofs.Reasons.{was_reasoned}
 use Rattle.cmd_why.proofs.reasoning.why_read.Goals as goal
 

@@ -1,5 +1,4 @@
-use Rattle.std.proofs.Common.{arith}
-use Rattle.cmd_why.proofs.WorldLines.{systems_more}
+use Rattle.{std.proofs.Common.arith, cmd_why.proofs.WorldLines.systems_more}
 use Rattle.cmd_why.proofs.replay_text.push_systems.Goals as goal
 
 pub systems-preserved : goal.systems-preserved

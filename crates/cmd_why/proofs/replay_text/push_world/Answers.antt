@@ -1,6 +1,4 @@
-use Rattle.std.proofs.Common.{map}
-use Rattle.model_run.specs.Run.{System}
-use Rattle.cmd_why.proofs.WorldLines.{world_lines}
+use Rattle.{std.proofs.Common.map, model_run.specs.Run.System, cmd_why.proofs.WorldLines.world_lines}
 use Rattle.cmd_why.proofs.replay_text.push_world.Goals as goal
 
 pub returns : goal.returns

@@ -1,5 +1,4 @@
-use Rattle.std.proofs.{Common.arith, lemmas.Result.err_from_is_err_and}
-use Rattle.cmd_why.proofs.Replays.{world_alone}
+use Rattle.{std.proofs.{Common.arith, lemmas.Result.err_from_is_err_and}, cmd_why.proofs.Replays.world_alone}
 use Rattle.cmd_why.proofs.replaying.print_world.Goals as goal
 
 pub returns-in_err-print_rest : goal.returns-in_err-print_rest

@@ -1,6 +1,4 @@
-use Rattle.std.proofs.Common.{None, arith, refl}
-use Rattle.cmd_status.specs.Devices.{output_of}
-use Rattle.cmd_check.proofs.Printing.{printed_as}
+use Rattle.{std.proofs.Common.{None, arith, refl}, cmd_status.specs.Devices.output_of, cmd_check.proofs.Printing.printed_as}
 use Rattle.cmd_why.{proofs.Replays.was_replayed, specs.Replaying.IsFirstFaultReplayed}
 use Rattle.cmd_why.proofs.replaying.replay_read.Goals as goal
 

@@ -1,6 +1,4 @@
-use Rattle.std.proofs.{Common.◌∙◌, Common.◌+◌, Common.ap, Common.arith, Common.refl, lemmas.List.take_all}
-use Rattle.echo_links.specs.LinkLines.{file_of}
-use Rattle.cmd_why.proofs.OfBytes.{read_more}
+use Rattle.{std.proofs.{Common.{◌∙◌, ◌+◌, ap, arith, refl}, lemmas.List.take_all}, echo_links.specs.LinkLines.file_of, cmd_why.proofs.OfBytes.read_more}
 use Rattle.cmd_why.proofs.sources.read_files.Goals as goal
 
 pub sources-preserved : goal.sources-preserved

@@ -1,5 +1,4 @@
-use Rattle.std.proofs.Common.{◌≡◌, take}
-use Rattle.cmd_why.specs.Sources.{files_of}
+use Rattle.{std.proofs.Common.{◌≡◌, take}, cmd_why.specs.Sources.files_of}
 use Rattle.cmd_why.proofs.sources.read_files.Given as goal
 
 abbrev pub invariant-sources : goal.invariant-sources

@@ -1,5 +1,4 @@
-use Rattle.std.specs.Option.{option_copied}
-use Rattle.cmd_why.proofs.Reasons.{were_named}
+use Rattle.{std.specs.Option.option_copied, cmd_why.proofs.Reasons.were_named}
 use Rattle.cmd_why.proofs.who_text.named.Goals as goal
 
 pub returns : goal.returns

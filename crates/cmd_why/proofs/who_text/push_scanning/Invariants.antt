@@ -1,5 +1,4 @@
-use Rattle.std.{proofs.Common.{◌≡◌, ◌++◌, take}, specs.List.flat_map}
-use Rattle.cmd_why.specs.Whys.{scanning}
+use Rattle.{std.{proofs.Common.{◌≡◌, ◌++◌, take}, specs.List.flat_map}, cmd_why.specs.Whys.scanning}
 use Rattle.cmd_why.proofs.who_text.push_scanning.Given as goal
 
 abbrev pub invariant-moves : goal.invariant-moves

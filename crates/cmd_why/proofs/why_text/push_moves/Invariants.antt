@@ -1,5 +1,4 @@
-use Rattle.std.{proofs.Common.{◌≡◌, ◌++◌, take}, specs.List.flat_map}
-use Rattle.cmd_why.specs.Whys.{move_line}
+use Rattle.{std.{proofs.Common.{◌≡◌, ◌++◌, take}, specs.List.flat_map}, cmd_why.specs.Whys.move_line}
 use Rattle.cmd_why.proofs.why_text.push_moves.Given as goal
 
 abbrev pub invariant-moves : goal.invariant-moves

@@ -14,7 +14,7 @@ group-init g c = (
   c.in_ok-push_message.ensures.cause.undamaged,
   omega arith,
   omega (arith, c.requires.some),
-  c.push_message.ensures.last,
+  c.push_message.ensures.ways,
 )
 
 pub group-preserved : goal.group-preserved
@@ -29,7 +29,7 @@ group-preserved g c =
       λ sound. c.in_ok-push_message-2.ensures.cause.undamaged (so.3 sound),
       omega (arith, so.4),
       omega (arith, c.group-test.true),
-      c.push_message-in-group.ensures.last,
+      c.push_message-in-group.ensures.ways,
     )
 
 pub returns-in_err-push_message-clause-many : goal.returns-in_err-push_message-clause-many

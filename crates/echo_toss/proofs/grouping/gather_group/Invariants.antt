@@ -1,4 +1,4 @@
-use Rattle.std.specs.Prelude.{IfSome}
+use Rattle.std.specs.Prelude.{All}
 use Rattle.echo_toss.specs.Ways.{IsWay}
 use Rattle.std.proofs.Common.{◌≡◌, ◌≤◌, ◌<◌, ◌-◌, ◌++◌, drop}
 use Rattle.disk_io.specs.Disk.{Honestly}
@@ -16,7 +16,7 @@ invariant-group g l =
     × ((g.T.Store.state l.fn.store).is_sound → (g.T.Store.state l.store).is_sound)
     × (l.from < l.at)
     × (l.at ≤ l.end)
-    × IfSome l.last (IsWay l.links)
+    × All (IsWay l.links) l.ways.items
 
 abbrev pub decreases-group : goal.decreases-group
 decreases-group g l = l.end - l.at

@@ -15,7 +15,7 @@ waiting-preserved g c =
       looks_twice _ _ _ so.1 c.push_message.ensures.looks,
       omega (arith, so.2, c.push_message.ensures.cause.later),
       λ sound. c.in_ok-push_message.ensures.cause.undamaged (so.3 sound),
-      c.push_message.ensures.last,
+      c.push_message.ensures.ways,
     )
 
 pub returns-in_err-push_message-clause-many : goal.returns-in_err-push_message-clause-many

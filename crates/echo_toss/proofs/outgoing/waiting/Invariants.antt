@@ -1,4 +1,4 @@
-use Rattle.std.specs.Prelude.{IfSome}
+use Rattle.std.specs.Prelude.{All}
 use Rattle.echo_toss.specs.Ways.{IsWay}
 use Rattle.std.proofs.Common.{◌≡◌, ◌≤◌, ◌-◌, ◌++◌, length, drop}
 use Rattle.disk_io.specs.Disk.{Honestly}
@@ -15,7 +15,7 @@ invariant-waiting g l =
     × LooksOn (g.T.Store.state l.fn.store) (g.T.Store.state l.store)
     × (g.T.Store.failures l.fn.store ≤ g.T.Store.failures l.store)
     × ((g.T.Store.state l.fn.store).is_sound → (g.T.Store.state l.store).is_sound)
-    × IfSome l.last (IsWay l.links)
+    × All (IsWay l.links) l.ways.items
 
 abbrev pub decreases-waiting : goal.decreases-waiting
 decreases-waiting g l = l.count - l.at

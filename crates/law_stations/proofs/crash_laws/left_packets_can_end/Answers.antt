@@ -1,5 +1,4 @@
-use Rattle.std.proofs.Common.{[]}
-use Rattle.law_stations.proofs.Ended.{can-end}
+use Rattle.{std.proofs.Common.[], law_stations.proofs.Ended.can-end}
 use Rattle.law_stations.proofs.crash_laws.left_packets_can_end.Goals as goal
 
 pub returns : goal.returns

@@ -7,14 +7,14 @@ returns-then-system-len-clause-posted c = grind (arith, with_past)
 
 pub returns-clause-addresses : goal.returns-clause-addresses
 returns-clause-addresses c =
-    addresses_stay c.world.inside.systems.items c.world.inside.packets.items c.args.world.now c.args.system c.post_at.new.tosser c.index_mut-tosser.result.now _
-    c.world.view_is c.index_mut-tosser.ensures.value c.post_at.ensures.file
+    addresses_stay c.world.inside.systems.items c.world.inside.packets.items c.args.world.now c.args.system c.post.new.self c.index_mut-state.result.now _
+    c.world.view_is c.index_mut-state.ensures.value c.post.ensures.file
 
 pub returns-clause-posted : goal.returns-clause-posted
 returns-clause-posted c =
     let within : c.args.system < length c.world.inside.systems.items = omega (arith, c.len.ensures, c.if-system-len.false) in
-    on_ok_weaker c.post_at.result
+    on_ok_weaker c.post.result
     (λ posted. with_set c.world.inside.systems.items c.world.inside.packets.items c.args.world.now c.args.system
-    (after_posting c.args.tag.now c.args.draft.now c.args.serial c.args.stamp) c.post_at.new.tosser c.index_mut-tosser.result.now _
-    c.world.view_is within c.index_mut-tosser.ensures.value posted)
-    c.post_at.ensures.posted
+    (after_posting c.args.tag.now c.args.draft.now c.args.serial c.args.stamp) c.post.new.self c.index_mut-state.result.now _
+    c.world.view_is within c.index_mut-state.ensures.value posted)
+    c.post.ensures.posted

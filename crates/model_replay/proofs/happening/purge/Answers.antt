@@ -7,14 +7,14 @@ returns-then-system-len-clause-purged c = grind (arith, with_past)
 
 pub returns-clause-addresses : goal.returns-clause-addresses
 returns-clause-addresses c =
-    addresses_stay c.world.inside.systems.items c.world.inside.packets.items c.args.world.now c.args.system c.purge_at.new.tosser c.index_mut-tosser.result.now _
-    c.world.view_is c.index_mut-tosser.ensures.value c.purge_at.ensures.file
+    addresses_stay c.world.inside.systems.items c.world.inside.packets.items c.args.world.now c.args.system c.purge.new.self c.index_mut-state.result.now _
+    c.world.view_is c.index_mut-state.ensures.value c.purge.ensures.file
 
 pub returns-clause-purged : goal.returns-clause-purged
 returns-clause-purged c =
     let within : c.args.system < length c.world.inside.systems.items = omega (arith, c.len.ensures, c.if-system-len.false) in
-    on_ok_weaker c.purge_at.result
+    on_ok_weaker c.purge.result
     (λ purged. with_set c.world.inside.systems.items c.world.inside.packets.items c.args.world.now c.args.system
-    after_purge c.purge_at.new.tosser c.index_mut-tosser.result.now _
-    c.world.view_is within c.index_mut-tosser.ensures.value purged)
-    c.purge_at.ensures.purged
+    after_purge c.purge.new.self c.index_mut-state.result.now _
+    c.world.view_is within c.index_mut-state.ensures.value purged)
+    c.purge.ensures.purged

@@ -4,15 +4,15 @@ use Rattle.model_replay.proofs.{Readings.count-step, world.count_from.Goals.then
 use Rattle.model_replay.proofs.world.count_from.Goals as goal
 
 pub loop-i-preserved : goal.loop-i-preserved
-loop-i-preserved g c =
+loop-i-preserved c =
     let before = c.loop-i.invariant in
-    let there : c.loop-i.i < length c.args.tosser.now.base = omega (arith, c.loop-i-test.true, c.filed-i-end.ensures.count) in
-    let step = count-step c.args.tag.now c.args.tosser.now.base c.loop-i.i (c.loop-i.i + 1) c.is_of_area.result there refl c.is_of_area.ensures in
+    let there : c.loop-i.i < length c.args.base.now.messages = omega (arith, c.loop-i-test.true, c.len-i-end.ensures.count) in
+    let step = count-step c.args.tag.now c.args.base.now.messages c.loop-i.i (c.loop-i.i + 1) c.is_of_area.result there refl c.is_of_area.ensures in
     elim c.if-is_of_area.branch [
       | then-is_of_area w ↦
-          let one = ap (λ b. cond b 1 0 + area_count c.args.tag.now (drop (c.loop-i.i + 1) c.args.tosser.now.base)) (sym w.if-is_of_area.true) ∙ step in
+          let one = ap (λ b. cond b 1 0 + area_count c.args.tag.now (drop (c.loop-i.i + 1) c.args.base.now.messages)) (sym w.if-is_of_area.true) ∙ step in
           record { so_far = omega (arith, one, before.so_far, w.count-is); few = omega (arith, before.few, w.count-is) }
       | else-is_of_area w ↦
-          let one = ap (λ b. cond b 1 0 + area_count c.args.tag.now (drop (c.loop-i.i + 1) c.args.tosser.now.base)) (sym w.if-is_of_area.false) ∙ step in
+          let one = ap (λ b. cond b 1 0 + area_count c.args.tag.now (drop (c.loop-i.i + 1) c.args.base.now.messages)) (sym w.if-is_of_area.false) ∙ step in
           record { so_far = omega (arith, one, before.so_far, w.count-is); few = omega (arith, before.few, w.count-is) }
     ]

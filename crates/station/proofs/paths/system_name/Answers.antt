@@ -1,5 +1,4 @@
-use Rattle.std.proofs.Common.{List, ℕ, All, subst, sym}
-use Rattle.station.proofs.StagingPaths.{IsPlain, plain_address}
+use Rattle.{std.proofs.Common.{List, ℕ, All, subst, sym}, station.proofs.StagingPaths.{IsPlain, plain_address}}
 use Rattle.station.proofs.paths.system_name.Goals as goal
 
 pub returns-clause-plain : goal.returns-clause-plain

@@ -1,6 +1,4 @@
-use Rattle.std.{proofs.Common.{◌∙◌, ap, length, subst, sym}, specs.Prelude.IsSome}
-use Rattle.disk_io.specs.Disk.{bytes_in}
-use Rattle.station.proofs.Sizes.{no_size, size_there}
+use Rattle.{std.{proofs.Common.{◌∙◌, ap, length, subst, sym}, specs.Prelude.IsSome}, disk_io.specs.Disk.bytes_in, station.proofs.Sizes.{no_size, size_there}}
 use Rattle.station.proofs.reading.size_of.Goals as goal
 
 pub len-requires : goal.len-requires

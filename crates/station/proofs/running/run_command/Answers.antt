@@ -1,6 +1,5 @@
-use Rattle.std.proofs.Common.{◌≡◌, ◌≤◌, ap, arith, inl, inr, refl}
+use Rattle.{std.proofs.Common.{◌≡◌, ◌≤◌, ap, arith, inl, inr, refl}, cmd_store.specs.Stops.store_answer}
 use Rattle.station.proofs.{Ran.{elsewhere_after, ends_sound, looks_of, looks_open, needs_held, past_of, refused_run, run_on, stopped_on}, Failures.failed_wider}
-use Rattle.cmd_store.specs.Stops.{store_answer}
 use Rattle.station.proofs.running.run_command.Goals as goal
 
 pub returns-in-Ok-prepare-clause-runs : goal.returns-in-Ok-prepare-clause-runs

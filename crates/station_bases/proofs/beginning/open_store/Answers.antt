@@ -1,6 +1,4 @@
-use Rattle.std.proofs.Common.{subst, sym}
-use Rattle.disk_io.specs.Runs.{LeavesOnly}
-use Rattle.base_folder_store.specs.Held.{RepresentsBaseOrWasLeft}
+use Rattle.{std.proofs.Common.{subst, sym}, disk_io.specs.Runs.LeavesOnly, base_folder_store.specs.Held.RepresentsBaseOrWasLeft}
 use Rattle.station_bases.proofs.beginning.open_store.Goals as goal
 
 pub returns-in-Ok-clause-begun : goal.returns-in-Ok-clause-begun

@@ -1,8 +1,6 @@
 use Rattle.std.{proofs.Common.{◌≡◌, ◌≤◌, ℕ, List, true, length, drop, Option, sym, subst, ◌∙◌, arith}, specs.Prelude.IsSome}
-use Rattle.base_file.specs.Pieces.{BeginsWith}
-use Rattle.disk_io.specs.Disk.{bytes_in}
-use Rattle.station_bases.specs.EntryOpening.{AreJudged, IsPartOf}
-use Rattle.station_bases.proofs.{EntryJudged.judged_holds, EntryJudged.judged_none, EntryJudged.piece_front, Opened.given_by, Reach.same_file}
+use Rattle.{base_file.specs.Pieces.BeginsWith, disk_io.specs.Disk.bytes_in, station_bases.specs.EntryOpening.{AreJudged, IsPartOf}}
+use Rattle.station_bases.proofs.{EntryJudged.{judged_holds, judged_none, piece_front}, Opened.given_by, Reach.same_file}
 use Rattle.station_bases.proofs.entry_opening.open_entries.Goals as goal
 
 pub take_all-requires-clause-so_far : goal.take_all-requires-clause-so_far

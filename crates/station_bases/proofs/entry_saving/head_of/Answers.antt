@@ -1,5 +1,4 @@
-use Rattle.std.proofs.Common.{append_assoc, arith}
-use Rattle.base_file.specs.BaseFile.{head_bytes}
+use Rattle.{std.proofs.Common.{append_assoc, arith}, base_file.specs.BaseFile.head_bytes}
 use Rattle.station_bases.proofs.entry_saving.head_of.Goals as goal
 
 pub returns : goal.returns

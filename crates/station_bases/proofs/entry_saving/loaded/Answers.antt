@@ -1,5 +1,4 @@
-use Rattle.std.proofs.Common.{Ok}
-use Rattle.station_bases.proofs.Loaded.{is_loaded, refused_not}
+use Rattle.{std.proofs.Common.Ok, station_bases.proofs.Loaded.{is_loaded, refused_not}}
 use Rattle.station_bases.proofs.entry_saving.loaded.Goals as goal
 
 pub returns-in-Ok-clause-loaded : goal.returns-in-Ok-clause-loaded

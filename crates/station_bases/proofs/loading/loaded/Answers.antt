@@ -1,6 +1,4 @@
-use Rattle.std.proofs.Common.{Some, subst}
-use Rattle.base_file.specs.Loading.{TakesBase}
-use Rattle.cmd_status.proofs.Systems.{took_base}
+use Rattle.{std.proofs.Common.{Some, subst}, base_file.specs.Loading.TakesBase, cmd_status.proofs.Systems.took_base}
 use Rattle.station_bases.proofs.loading.loaded.Goals as goal
 
 pub returns-clause-same : goal.returns-clause-same

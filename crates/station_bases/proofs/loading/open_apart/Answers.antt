@@ -1,8 +1,6 @@
-use Rattle.std.{proofs.Common.{List, ℕ, Option, sym, subst}, specs.Prelude.IfSome}
-use Rattle.disk_io.specs.Disk.{bytes_in}
-use Rattle.base_file.specs.Base.{Base}
-use Rattle.cmd_status.specs.Inputs.{IsBaseGiven}
-use Rattle.station_bases.{specs.{Entries.HoldEntries, InFile.RepresentsInFile, declared.entries.Entries.Entries}, proofs.Reach.same_file}
+use Rattle.{std.{proofs.Common.{List, ℕ, Option, sym, subst}, specs.Prelude.IfSome}, disk_io.specs.Disk.bytes_in, base_file.specs.Base.Base}
+use Rattle.{cmd_status.specs.Inputs.IsBaseGiven, station_bases.specs.{Entries.HoldEntries, InFile.RepresentsInFile, declared.entries.Entries.Entries}}
+use Rattle.station_bases.proofs.Reach.{same_file}
 use Rattle.station_bases.proofs.loading.open_apart.Goals as goal
 
 pub returns-in-Some-clause-held : goal.returns-in-Some-clause-held

@@ -1,11 +1,8 @@
-use Rattle.std.proofs.{Common.{arith, inr, subst, sym}, lemmas.Result.err_from_is_err_and}
-use Rattle.echo_addr.specs.declared.address.Address.{Address}
-use Rattle.base_folder.specs.{Ours.IsOfOther, Unopened.IsOpenedFor, Wrong.IsSound}
-use Rattle.disk_io.specs.{Device.Failed, Disk.Files}
-use Rattle.station.proofs.Failures.{failed_wider}
-use Rattle.station_bases.proofs.FolderOpened.{not_opened, opens_since, quiet_represented}
-use Rattle.station_bases.proofs.opening.open_station.Goals as goal
+use Rattle.{std.proofs.{Common.{arith, inr, subst, sym}, lemmas.Result.err_from_is_err_and}, echo_addr.specs.declared.address.Address.Address}
+use Rattle.{base_folder.specs.{Ours.IsOfOther, Unopened.IsOpenedFor, Wrong.IsSound}, disk_io.specs.{Device.Failed, Disk.Files}}
+use Rattle.{station.proofs.Failures.failed_wider, station_bases.proofs.FolderOpened.{not_opened, opens_since, quiet_represented}}
 use Rattle.base_log.proofs.Quiet.{seen_quiet as seen_same}
+use Rattle.station_bases.proofs.opening.open_station.Goals as goal
 
 pub returns-in_err-folder-clause-run : goal.returns-in_err-folder-clause-run
 returns-in_err-folder-clause-run g c =

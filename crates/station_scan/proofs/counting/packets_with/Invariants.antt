@@ -1,6 +1,5 @@
 -- The packets so far were counted.
-use Rattle.std.proofs.Common.{◌≡◌, map, take}
-use Rattle.station_scan.specs.Passing.{with_group}
+use Rattle.{std.proofs.Common.{◌≡◌, map, take}, station_scan.specs.Passing.with_group}
 use Rattle.station_scan.proofs.counting.packets_with.Given as goal
 
 abbrev pub invariant-packets : goal.invariant-packets

@@ -1,6 +1,5 @@
-use Rattle.std.proofs.{Common.arith, Common.inl, lemmas.Result.on_ok_weaker}
-use Rattle.disk_atomic.{specs.Outgoing.{IsAtStaging, IsStagingOne}, proofs.Changes.{then_only, wider}}
-use Rattle.station_scan.proofs.Written.{ok_gives, tried_written}
+use Rattle.{std.proofs.{Common.{arith, inl}, lemmas.Result.on_ok_weaker}, disk_atomic.specs.Outgoing.{IsAtStaging, IsStagingOne}}
+use Rattle.{disk_atomic.proofs.Changes.{then_only, wider}, station_scan.proofs.Written.{ok_gives, tried_written}}
 use Rattle.station_scan.proofs.ending.end_packets.Goals as goal
 
 pub returns-in_err-append_open-clause-changes : goal.returns-in_err-append_open-clause-changes

@@ -1,6 +1,5 @@
 use Rattle.std.{proofs.{Common.{◌<◌, ℕ, List, arith, get_or, length, sym}, lemmas.List.Elements.{AllWithin-more, at_read}}, specs.Prelude.Contains}
-use Rattle.disk_io.proofs.Moments.{nothing_twice}
-use Rattle.station_scan.{specs.Left.IsFoundWhere, proofs.Found.{adds_found, there_same, where_more, where_same}}
+use Rattle.{disk_io.proofs.Moments.nothing_twice, station_scan.{specs.Left.IsFoundWhere, proofs.Found.{adds_found, there_same, where_more, where_same}}}
 use Rattle.station_scan.proofs.finding.find_left.Goals as goal
 
 pub named-preserved : goal.named-preserved

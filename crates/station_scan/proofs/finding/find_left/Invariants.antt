@@ -1,6 +1,5 @@
 -- The listed packets up to here are found.
-use Rattle.std.{proofs.Common.◌≤◌, specs.{Prelude.All, List.AllWithin}}
-use Rattle.disk_io.specs.{Disk.Honestly, Runs.ChangesNothing}
+use Rattle.{std.{proofs.Common.◌≤◌, specs.{Prelude.All, List.AllWithin}}, disk_io.specs.{Disk.Honestly, Runs.ChangesNothing}}
 use Rattle.station_scan.specs.Left.{AreFound, IsStagingThere, IsFoundWhere}
 use Rattle.station_scan.proofs.finding.find_left.Given as goal
 

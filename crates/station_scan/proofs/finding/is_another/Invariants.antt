@@ -1,6 +1,5 @@
 -- Those up to here have other paths.
-use Rattle.std.specs.List.{AllWithin}
-use Rattle.station_scan.specs.Left.{HaveOtherLeft}
+use Rattle.{std.specs.List.AllWithin, station_scan.specs.Left.HaveOtherLeft}
 use Rattle.station_scan.proofs.finding.is_another.Given as goal
 
 abbrev pub invariant-others : goal.invariant-others

@@ -1,14 +1,13 @@
-use Rattle.std.proofs.{Common.subst, Common.sym, Common.arith, lemmas.Result.err_from_is_err_and}
-use Rattle.disk_atomic.{specs.Finishing.IsOfLeft, proofs.Changes.{only_nothing, then_only, wider}}
-use Rattle.station_scan.specs.Left.{AreSameLeft, IsOfPaths}
-use Rattle.station_scan.proofs.Lefts.{are_free, are_there, nothing_these, of_paths, quiet_start, settled_these, unsettled_these}
+use Rattle.{std.proofs.{Common.{subst, sym, arith}, lemmas.Result.err_from_is_err_and}, disk_atomic.specs.Finishing.IsOfLeft}
+use Rattle.{disk_atomic.proofs.Changes.{only_nothing, then_only, wider}, base_store.proofs.Runs.quiet_disk, station_scan.specs.Left.{AreSameLeft, IsOfPaths}}
+use Rattle.station_scan.proofs.Lefts.{are_free, are_there, nothing_these, of_paths, settled_these, unsettled_these}
 use Rattle.station_scan.proofs.finishing.end_these.Goals as goal
 
 pub finish_stopped-requires-clause-there : goal.finish_stopped-requires-clause-there
 finish_stopped-requires-clause-there g c = grind (arith, are_there)
 
 pub returns-in_err-found-clause-ends : goal.returns-in_err-found-clause-ends
-returns-in_err-found-clause-ends g c = grind (arith, err_from_is_err_and, nothing_these, quiet_start)
+returns-in_err-found-clause-ends g c = grind (arith, err_from_is_err_and, nothing_these, quiet_disk)
 
 pub returns-in_err-finish_stopped-clause-changes : goal.returns-in_err-finish_stopped-clause-changes
 returns-in_err-finish_stopped-clause-changes g c =

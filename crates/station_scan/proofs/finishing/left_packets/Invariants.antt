@@ -1,6 +1,5 @@
 -- The packets of the paths up to here are there.
-use Rattle.std.proofs.Common.{◌≡◌, ◌<◌, ℕ, length, get_or}
-use Rattle.disk_atomic.specs.declared.finishing.Left.{Left}
+use Rattle.{std.proofs.Common.{◌≡◌, ◌<◌, ℕ, length, get_or}, disk_atomic.specs.declared.finishing.Left.Left}
 use Rattle.station_scan.specs.{declared.finding.LeftPaths.LeftPaths, Left.IsSameLeft}
 use Rattle.station_scan.proofs.finishing.left_packets.Given as goal
 

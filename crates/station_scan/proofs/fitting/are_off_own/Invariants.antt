@@ -1,6 +1,5 @@
 -- So are those up to here.
-use Rattle.std.specs.List.{AllWithin}
-use Rattle.station_scan.specs.Fitting.{IsOff}
+use Rattle.{std.specs.List.AllWithin, station_scan.specs.Fitting.IsOff}
 use Rattle.station_scan.proofs.fitting.are_off_own.Given as goal
 
 abbrev pub invariant-packets : goal.invariant-packets

@@ -1,6 +1,5 @@
 -- So are the bytes up to here.
-use Rattle.std.specs.List.{AllWithin}
-use Rattle.disk_atomic.specs.ListStaged.{IsNameByte}
+use Rattle.{std.specs.List.AllWithin, disk_atomic.specs.ListStaged.IsNameByte}
 use Rattle.station_scan.proofs.fitting.is_name.Given as goal
 
 abbrev pub invariant-bytes : goal.invariant-bytes

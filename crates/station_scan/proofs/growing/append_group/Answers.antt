@@ -1,5 +1,4 @@
-use Rattle.std.proofs.Common.{inl}
-use Rattle.disk_atomic.{specs.Outgoing.{IsAtStaging, IsStagingOne}, proofs.Changes.{then_only, wider}}
+use Rattle.{std.proofs.Common.inl, disk_atomic.{specs.Outgoing.{IsAtStaging, IsStagingOne}, proofs.Changes.{then_only, wider}}}
 use Rattle.station_scan.proofs.Grown.{all_appended, copied_grow, first_staging, open_growing}
 use Rattle.station_scan.proofs.growing.append_group.Goals as goal
 

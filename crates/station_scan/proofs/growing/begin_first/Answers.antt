@@ -1,5 +1,4 @@
-use Rattle.disk_atomic.{specs.Outgoing.IsStagingOne, proofs.Changes.then_only}
-use Rattle.station_scan.proofs.Written.{begun_if}
+use Rattle.{disk_atomic.{specs.Outgoing.IsStagingOne, proofs.Changes.then_only}, station_scan.proofs.Written.begun_if}
 use Rattle.station_scan.proofs.growing.begin_first.Goals as goal
 
 pub write_headers-requires-clause-begun : goal.write_headers-requires-clause-begun

@@ -1,7 +1,6 @@
-use Rattle.std.proofs.{Common.{◌≡◌, ◌≢◌, ◌<◌, ◌∙◌, ⊎_elim, arith, inl, length, refl, sym}, lemmas.Bool.{eqb-false, eqb-true}}
-use Rattle.disk_io.specs.Device.{Failed}
-use Rattle.station_scan.specs.{Passing.is_made, Passing.made_in, Publishing.IsGoingAt, Publishing.IsPublishedAt, Scanning.IsTouched}
-use Rattle.station_scan.proofs.{Grown.open_growing, Passes.for_made, Passes.made_going, Passes.made_touched, Published.store_wider, Sendings.sends_alone, Sendings.sends_none, Sendings.sends_published}
+use Rattle.{std.proofs.{Common.{◌≡◌, ◌≢◌, ◌<◌, ◌∙◌, ⊎_elim, arith, inl, length, refl, sym}, lemmas.Bool.{eqb-false, eqb-true}}, disk_io.specs.Device.Failed}
+use Rattle.station_scan.{specs.{Passing.{is_made, made_in}, Publishing.{IsGoingAt, IsPublishedAt}, Scanning.IsTouched}, proofs.Grown.open_growing}
+use Rattle.station_scan.proofs.{Passes.{for_made, made_going, made_touched}, Published.store_wider, Sendings.{sends_alone, sends_none, sends_published}}
 use Rattle.station_scan.proofs.outgoing.publish_made.Goals as goal
 
 pub returns-in-Err-clause-sends : goal.returns-in-Err-clause-sends

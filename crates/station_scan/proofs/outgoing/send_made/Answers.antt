@@ -1,11 +1,9 @@
 use Rattle.std.{proofs.Common.{◌≡◌, Err, Ok, Result, inl, inr, refl, subst, ℕ, arith}, specs.{Prelude.{List, None, OnOk}, List.flat_map}}
-use Rattle.disk_io.specs.{Device.Failed, declared.disk_error.DiskError.DiskError}
-use Rattle.base_store.specs.Store.{all_scanned}
-use Rattle.cmd_status.specs.Devices.{output_of}
-use Rattle.cmd_store.specs.{PacketLines.counted_line, Answered.AnswersOn, Answered.AreLines, Answered.RefusesNone, Stops.store_answer, declared.command_error.CommandError.CommandError}
-use Rattle.echo_toss.specs.Exports.{OutgoingMessage as Sent}
+use Rattle.{disk_io.specs.{Device.Failed, declared.disk_error.DiskError.DiskError}, base_store.{specs.Store.all_scanned, proofs.Runs.quiet_disk}}
+use Rattle.{cmd_status.specs.Devices.output_of, cmd_store.specs.{PacketLines.counted_line, Answered.{AnswersOn, AreLines, RefusesNone}, Stops.store_answer}}
+use Rattle.{cmd_store.specs.declared.command_error.CommandError.CommandError, echo_toss.specs.Exports.OutgoingMessage as Sent}
 use Rattle.station_scan.specs.{Passing.{AreCounted, IsAllOf, IsPartOf, IsStagingTo, counts_in}, declared.scan_error.ScanError.TheVariants.{Command, Staying}}
-use Rattle.station_scan.proofs.{Passes.{can_still, gone_or_same, passed_part, staged_keeps, staged_more}, Lefts.quiet_start}
+use Rattle.station_scan.proofs.Passes.{can_still, gone_or_same, passed_part, staged_keeps, staged_more}
 use Rattle.station_scan.proofs.Reports.{lines_answer, no_damage, scans_sent, scans_unprinted, staying_why}
 use Rattle.station_scan.proofs.outgoing.send_made.Goals as goal
 
@@ -44,7 +42,7 @@ returns-in-Ok-drop_made-clause-sends g c = λ before passed honest base moved.
     let answer = lines_answer to base passed.sent links out now (Err stop) c.requires.ready.stamp moved.at passed.counted (passed.part.whole (run honest) (all_scanned base) moved.keeps) printed in
     let gone = subst (λ (r : Result (Unit {0}) DiskError). OnOk r ((sent : List Sent) → AreCounted to sent links → (m : List ℕ) → IsStagingTo to sent m → s2.disk.seen m ≡ None)) c.in-Ok-drop_made.is (c.drop_made.ensures.gone honest) in
     scans_unprinted g.D.Disk.state Own to (Failed (g.P.Kept.Store.failures c.args.store.now) (g.P.Kept.Store.failures c.drop_made.new.store)) s0 s2 links
-    (staged_more Own to (IsAllOf to s0 s1) (IsPartOf to s0 s2) s0 s1 s2 links passed (λ part. passed_part Own to s0 s1 s2 links passed run) drop) base moved (can_still Own (IsStagingTo to passed.sent) to s1 s2 drop c.requires.ready) honest s2 (quiet_start s2.disk) out now
+    (staged_more Own to (IsAllOf to s0 s1) (IsPartOf to s0 s2) s0 s1 s2 links passed (λ part. passed_part Own to s0 s1 s2 links passed run) drop) base moved (can_still Own (IsStagingTo to passed.sent) to s1 s2 drop c.requires.ready) honest s2 (quiet_disk s2.disk) out now
     stop (Err (Command stop)) answer (inl (refl, gone_or_same Own to (IsAllOf to s0 s1) s0 s1 s2 links passed drop (gone passed.sent passed.counted))) (no_damage stop met)
 
 pub returns-in-Err-drop_made-clause-sends : goal.returns-in-Err-drop_made-clause-sends
@@ -65,7 +63,7 @@ returns-in-Err-drop_made-clause-sends g c = λ before passed honest base moved.
     let left = c.in-Err-drop_made.left in
     let failed = Failed (g.P.Kept.Store.failures c.args.store.now) (g.P.Kept.Store.failures c.drop_made.new.store) in
     scans_unprinted g.D.Disk.state Own to failed s0 s2 links (staged_more Own to (IsAllOf to s0 s1) (IsPartOf to s0 s2) s0 s1 s2 links passed (λ part. passed_part Own to s0 s1 s2 links passed run) drop) base moved
-    (can_still Own (IsStagingTo to passed.sent) to s1 s2 drop c.requires.ready) honest s2 (quiet_start s2.disk) out now stop (Err (Staying left)) answer (inr (left, refl, staying_why failed left (λ e. c.drop_made.ensures.cause.failed (cc (c.in-Err-drop_made.is, e))))) (λ e. cc e)
+    (can_still Own (IsStagingTo to passed.sent) to s1 s2 drop c.requires.ready) honest s2 (quiet_disk s2.disk) out now stop (Err (Staying left)) answer (inr (left, refl, staying_why failed left (λ e. c.drop_made.ensures.cause.failed (cc (c.in-Err-drop_made.is, e))))) (λ e. cc e)
 
 pub returns-in-Ok-drop_made-clause-keeps : goal.returns-in-Ok-drop_made-clause-keeps
 returns-in-Ok-drop_made-clause-keeps g c =

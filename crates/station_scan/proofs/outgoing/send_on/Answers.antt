@@ -1,16 +1,14 @@
 use Rattle.std.{proofs.Common.{◌≡◌, ◌≤◌, ◌∙◌, List, Result, Err, ap, arith, subst, sym}, specs.{Prelude.{IfErr, IfOk, Vec}, declared.alloc.Global.Global}}
-use Rattle.disk_io.specs.{Device.Failed, declared.disk_error.DiskError.DiskError}
-use Rattle.disk_io.specs.declared.disk_error.DiskError.TheVariants as disk
-use Rattle.base_store.specs.{Store.all_scanned, declared.store_error.StoreError.StoreError}
-use Rattle.base_store.specs.declared.store_error.StoreError.TheVariants as error
-use Rattle.cmd_status.specs.Devices.{output_of}
-use Rattle.station_scan.specs.{declared.counting.LinkPacket.LinkPacket, Moved.ScansFrom, Passing.HasPassed, Passing.IsStagingTo, Passing.StopsPassing, declared.publish_error.PublishError.PublishError}
-use Rattle.station_scan.specs.declared.{publish_error.PublishError.TheVariants.{Base as OfBase, Packets, Reading, Staging}, scan_error.ScanError.ScanError}
-use Rattle.station.proofs.Failures.{failed_wider}
-use Rattle.disk_atomic.specs.declared.placing_error.PlacingError.{PlacingError}
-use Rattle.disk_atomic.specs.declared.placing_error.PlacingError.TheVariants as placing
+use Rattle.{disk_io.specs.{Device.Failed, declared.disk_error.DiskError.DiskError}, base_store.specs.Store.all_scanned}
+use Rattle.{base_store.specs.declared.store_error.StoreError.StoreError, cmd_status.specs.Devices.output_of}
+use Rattle.station_scan.specs.{declared.counting.LinkPacket.LinkPacket, Moved.ScansFrom, Passing.{HasPassed, IsStagingTo, StopsPassing}}
+use Rattle.station_scan.specs.declared.publish_error.PublishError.{PublishError, TheVariants.{Base as OfBase, Packets, Reading, Staging}}
+use Rattle.{station_scan.specs.declared.scan_error.ScanError.ScanError, disk_atomic.specs.declared.placing_error.PlacingError.PlacingError}
 use Rattle.station_scan.proofs.Reports.{err_of, scans_reading, scans_reported, scans_staying, scans_wider, touched_after, touched_looked}
-use Rattle.station_scan.proofs.Passes.{can_still, staged_keeps, used_looked}
+use Rattle.{station_scan.proofs.Passes.{can_still, staged_keeps, used_looked}, station.proofs.Failures.failed_wider}
+use Rattle.disk_io.specs.declared.disk_error.DiskError.TheVariants as disk
+use Rattle.base_store.specs.declared.store_error.StoreError.TheVariants as error
+use Rattle.disk_atomic.specs.declared.placing_error.PlacingError.TheVariants as placing
 use Rattle.station_scan.proofs.outgoing.send_on.Goals as goal
 
 pub send_made-requires : goal.send_made-requires

@@ -1,8 +1,5 @@
 -- The packets of the messages so far were counted and written, and the store holds what it held.
-use Rattle.std.proofs.Common.{◌≡◌, ◌≤◌, ◌-◌, length}
-use Rattle.disk_io.specs.Disk.{Honestly}
-use Rattle.base_file.specs.Base.{Base}
-use Rattle.station_scan.proofs.Passes.{IsPassing}
+use Rattle.{std.proofs.Common.{◌≡◌, ◌≤◌, ◌-◌, length}, disk_io.specs.Disk.Honestly, base_file.specs.Base.Base, station_scan.proofs.Passes.IsPassing}
 use Rattle.station_scan.proofs.passing.pass_on.Given as goal
 
 abbrev pub invariant-groups : goal.invariant-groups

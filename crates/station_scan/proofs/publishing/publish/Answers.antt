@@ -1,5 +1,4 @@
-use Rattle.std.proofs.Common.{arith}
-use Rattle.station_scan.specs.Publishing.{ended_before}
+use Rattle.{std.proofs.Common.arith, station_scan.specs.Publishing.ended_before}
 use Rattle.station_scan.proofs.Published.{publish_keeps, published_from, publishing, staging_keeps, stopping, stops_before, stops_from}
 use Rattle.station_scan.proofs.publishing.publish.Goals as goal
 

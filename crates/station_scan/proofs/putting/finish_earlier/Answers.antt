@@ -1,6 +1,6 @@
-use Rattle.std.proofs.{Common.List, Common.Result, Common.subst, Common.sym, lemmas.Result.err_from_is_err_and}
-use Rattle.disk_atomic.specs.{ListStaged.AreListed, declared.listing.StagedPacket.StagedPacket, declared.placing_error.PlacingError.PlacingError}
-use Rattle.station_scan.{specs.Left.{EndsLeft, IsOfNameOff}, proofs.{Lefts.{ends_for, nothing_left, quiet_start}, Written.used_none}}
+use Rattle.{std.proofs.{Common.{List, Result, subst, sym}, lemmas.Result.err_from_is_err_and}, disk_atomic.specs.ListStaged.AreListed}
+use Rattle.{disk_atomic.specs.declared.{listing.StagedPacket.StagedPacket, placing_error.PlacingError.PlacingError}, base_store.proofs.Runs.quiet_disk}
+use Rattle.station_scan.{specs.Left.{EndsLeft, IsOfNameOff}, proofs.{Lefts.{ends_for, nothing_left}, Written.used_none}}
 use Rattle.station_scan.proofs.putting.finish_earlier.Goals as goal
 
 pub returns-in_err-listed-clause-used : goal.returns-in_err-listed-clause-used
@@ -15,7 +15,7 @@ returns-in_err-listed-clause-ends g c = λ honest.
     let d = (g.P.Kept.Store.state c.args.store.now).disk in
     let is_true = g.G.ListStaged.is_true c.left_staged.new.self d.seen in
     let p = err_from_is_err_and c.from_residual.result c.from_residual.ensures.1 in
-    subst (λ (r : Result (Unit {0}) PlacingError). EndsLeft is_true Own to.outbound.now to.own.now c.args.cursor d d r) (sym p.1) (nothing_left is_true Own to.outbound.now to.own.now c.args.cursor d d (quiet_start d) p.0)
+    subst (λ (r : Result (Unit {0}) PlacingError). EndsLeft is_true Own to.outbound.now to.own.now c.args.cursor d d r) (sym p.1) (nothing_left is_true Own to.outbound.now to.own.now c.args.cursor d d (quiet_disk d) p.0)
 
 pub returns-clause-ends : goal.returns-clause-ends
 returns-clause-ends g c = λ honest.

@@ -1,12 +1,9 @@
-use Rattle.std.proofs.Common.{◌≡◌, ◌≤◌, ◌⊎◌, ◌∙◌, ⊎_elim, Result, arith, inl, inr, refl, subst, sym}
-use Rattle.disk_io.specs.Device.{Failed}
-use Rattle.disk_atomic.specs.declared.placing_error.PlacingError.{PlacingError, TheVariants.Device, TheVariants.Taken}
-use Rattle.base_store.specs.Store.{all_scanned}
-use Rattle.cmd_status.specs.Devices.{output_of}
-use Rattle.station.proofs.Failures.{failed_wider}
-use Rattle.station_scan.specs.{Left.EndsLeft, Scanning.ScansOnStore, declared.pieces.ScanSource.ScanSource, declared.scan_error.ScanError.ScanError, declared.sending.Sending.Sending}
-use Rattle.station_scan.proofs.Puts.{moved_still, scans_early, scans_left, scans_put}
-use Rattle.station_scan.proofs.{Outs.out_keeps, Reports.placing_err_of, Reports.unplanned_other, Reports.unplanned_why, Written.used_settled}
+use Rattle.{std.proofs.Common.{◌≡◌, ◌≤◌, ◌⊎◌, ◌∙◌, ⊎_elim, Result, arith, inl, inr, refl, subst, sym}, disk_io.specs.Device.Failed}
+use Rattle.{disk_atomic.specs.declared.placing_error.PlacingError.{PlacingError, TheVariants.{Device, Taken}}, base_store.specs.Store.all_scanned}
+use Rattle.{cmd_status.specs.Devices.output_of, station.proofs.Failures.failed_wider, station_scan.specs.{Left.EndsLeft, Scanning.ScansOnStore}}
+use Rattle.station_scan.specs.declared.{pieces.ScanSource.ScanSource, scan_error.ScanError.ScanError, sending.Sending.Sending}
+use Rattle.station_scan.proofs.{Puts.{moved_still, scans_early, scans_left, scans_put}, Outs.out_keeps}
+use Rattle.station_scan.proofs.{Reports.{placing_err_of, unplanned_other, unplanned_why}, Written.used_settled}
 use Rattle.station_scan.proofs.putting.put_moved.Goals as goal
 
 pub returns-in-Err-clause-scans : goal.returns-in-Err-clause-scans

@@ -1,6 +1,4 @@
-use Rattle.std.proofs.Common.{◌∙◌}
-use Rattle.cmd_status.specs.Devices.{output_of}
-use Rattle.station_scan.proofs.Reports.{reported}
+use Rattle.{std.proofs.Common.◌∙◌, cmd_status.specs.Devices.output_of, station_scan.proofs.Reports.reported}
 use Rattle.station_scan.proofs.reporting.report.Goals as goal
 
 pub returns : goal.returns

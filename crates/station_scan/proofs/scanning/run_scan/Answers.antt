@@ -1,9 +1,7 @@
-use Rattle.std.proofs.{Common.{◌≡◌, ◌≤◌, ◌⊎◌, Err, arith, inl, inr, refl}, lemmas.Result.on_ok_weaker}
-use Rattle.disk_io.specs.Device.{Failed}
+use Rattle.{std.proofs.{Common.{◌≡◌, ◌≤◌, ◌⊎◌, Err, arith, inl, inr, refl}, lemmas.Result.on_ok_weaker}, disk_io.specs.Device.Failed}
 use Rattle.station.{proofs.{Failures.failed_wider, Ran.{looks_of, looks_open, needs_held, stopped_on}}, specs.Opening.HaveFailed}
-use Rattle.cmd_store.specs.declared.command_error.CommandError.TheVariants.{Met}
-use Rattle.cmd_status.specs.Devices.{output_of}
-use Rattle.station_scan.proofs.{Runs.scan_keeps, Runs.scanned_on, Stops.failed_too}
+use Rattle.{cmd_store.specs.declared.command_error.CommandError.TheVariants.Met, cmd_status.specs.Devices.output_of}
+use Rattle.station_scan.proofs.{Runs.{scan_keeps, scanned_on}, Stops.failed_too}
 use Rattle.station_scan.proofs.scanning.run_scan.Goals as goal
 
 pub returns-in-Ok-prepare-clause-runs : goal.returns-in-Ok-prepare-clause-runs

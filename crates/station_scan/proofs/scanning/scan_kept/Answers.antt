@@ -1,9 +1,6 @@
-use Rattle.std.proofs.Common.{◌⊎◌, ◌≤◌, ⊎_elim, arith, inl, inr}
-use Rattle.disk_io.specs.Device.{Failed}
-use Rattle.station.proofs.Failures.{failed_wider}
-use Rattle.cmd_status.specs.Devices.{output_of}
-use Rattle.station_scan.specs.Moved.{IsMoved}
-use Rattle.station_scan.proofs.{Lefts.quiet_start, Published.keeps_nothing, Scans.moved_keeps, Scans.scans_moved, Scans.scans_stopped}
+use Rattle.{std.proofs.Common.{◌⊎◌, ◌≤◌, ⊎_elim, arith, inl, inr}, disk_io.specs.Device.Failed, station.proofs.Failures.failed_wider}
+use Rattle.{cmd_status.specs.Devices.output_of, base_store.proofs.Runs.quiet_disk, station_scan.{specs.Moved.IsMoved, proofs.Published.keeps_nothing}}
+use Rattle.station_scan.proofs.Scans.{moved_keeps, scans_moved, scans_stopped}
 use Rattle.station_scan.proofs.scanning.scan_kept.Goals as goal
 
 pub returns-in-Ok-clause-scans : goal.returns-in-Ok-clause-scans
@@ -54,4 +51,4 @@ pub returns-in-Err-clause-keeps : goal.returns-in-Err-clause-keeps
 returns-in-Err-clause-keeps g c = grind (arith, keeps_nothing)
 
 pub returns-then-not-is_stamp-clause-scans : goal.returns-then-not-is_stamp-clause-scans
-returns-then-not-is_stamp-clause-scans g c = grind (arith, scans_stopped, quiet_start)
+returns-then-not-is_stamp-clause-scans g c = grind (arith, scans_stopped, quiet_disk)

@@ -1,6 +1,5 @@
 -- The routes so far were added.
-use Rattle.std.{proofs.Common.{◌≡◌, map, take}, specs.List.AllWithin}
-use Rattle.station_scan.specs.Sending.{IsSized, route_to}
+use Rattle.{std.{proofs.Common.{◌≡◌, map, take}, specs.List.AllWithin}, station_scan.specs.Sending.{IsSized, route_to}}
 use Rattle.station_scan.proofs.sending.routes_to.Given as goal
 
 abbrev pub invariant-addresses : goal.invariant-addresses

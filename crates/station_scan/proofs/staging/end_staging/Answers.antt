@@ -1,6 +1,5 @@
 use Rattle.std.{proofs.{Common.{◌≡◌, ◌≢◌, ℕ, List, get_or, true, arith}, lemmas.{List.Elements.Contains-get_or, Result.IfOk-weaker}}, specs.Prelude.None}
-use Rattle.disk_io.specs.Disk.{IsIn}
-use Rattle.disk_atomic.{specs.Outgoing.{IsAtStaging, staged_in}, proofs.{Changes.{only_nothing, then_only}, Whole.on_ok_any}}
+use Rattle.{disk_io.specs.Disk.IsIn, disk_atomic.{specs.Outgoing.{IsAtStaging, staged_in}, proofs.{Changes.{only_nothing, then_only}, Whole.on_ok_any}}}
 use Rattle.station_scan.{specs.Publishing.AreStaged, proofs.{Looked.same_seen, Staged.{path_off, staged_now, synced, tried_quiet}}}
 use Rattle.station_scan.proofs.staging.end_staging.Goals as goal
 

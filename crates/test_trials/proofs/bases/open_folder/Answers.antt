@@ -1,7 +1,6 @@
-use Rattle.std.proofs.Common.{◌∙◌, List, ℕ, ap, sym, subst}
-use Rattle.disk_io.{specs.Disk.bytes_in, proofs.Moments.nothing_twice}
-use Rattle.base_log.specs.{AtRest.IsAtRest, Names.log_of, Opening.AreAlone, Reading.IsLogIn, Standing.BaseBytes, Standing.Represents, Standing.base_at}
-use Rattle.base_log.proofs.{Empty.represented_quiet, Quiet.base_quiet}
+use Rattle.{std.proofs.Common.{◌∙◌, List, ℕ, ap, sym, subst}, disk_io.{specs.Disk.bytes_in, proofs.Moments.nothing_twice}, base_log.specs.AtRest.IsAtRest}
+use Rattle.base_log.{specs.{Names.log_of, Opening.AreAlone, Reading.IsLogIn, Standing.{BaseBytes, Represents, base_at}}, proofs.Empty.represented_quiet}
+use Rattle.base_log.proofs.Quiet.{base_quiet}
 use Rattle.test_trials.proofs.bases.open_folder.Goals as goal
 
 pub judge-requires-clause-log : goal.judge-requires-clause-log

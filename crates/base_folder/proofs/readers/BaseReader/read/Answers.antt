@@ -1,5 +1,4 @@
-use Rattle.std.proofs.Common.{Some}
-use Rattle.cmd_status.proofs.Systems.{took_base}
+use Rattle.{std.proofs.Common.Some, cmd_status.proofs.Systems.took_base}
 use Rattle.base_folder.proofs.readers.BaseReader.read.Goals as goal
 
 pub returns-clause-ok : goal.returns-clause-ok

@@ -1,7 +1,6 @@
-use Rattle.std.{proofs.Common.{◌≡◌, ◌∙◌, ◌<◌, length, sym, arith}, specs.Prelude.slice_get}
-use Rattle.echo_filed.specs.{Filed.Filed, Stored.message_in, declared.stored.Version.TheVariants.Second}
-use Rattle.base_folder_store.{specs.Opened.held_by, proofs.{Causes.{answers_error, on_ok_none}, Seen.message_at}}
-use Rattle.base_folder.proofs.Readings.{read_at, readable_quiet, sees_quiet, vouched_quiet}
+use Rattle.{std.{proofs.Common.{◌≡◌, ◌∙◌, ◌<◌, length, sym, arith}, specs.Prelude.slice_get}, echo_filed.specs.{Filed.Filed, Stored.message_in}}
+use Rattle.{echo_filed.specs.declared.stored.Version.TheVariants.Second, base_folder_store.{specs.Opened.held_by, proofs.Causes.{answers_error, on_ok_none}}}
+use Rattle.{base_folder_store.proofs.Seen.message_at, base_folder.proofs.Readings.{read_at, readable_quiet, sees_quiet, vouched_quiet}}
 use Rattle.base_folder.proofs.readers.FolderReaderMessageSource.fetch.Goals as goal
 
 pub returns-in_err-message-clause-fetched : goal.returns-in_err-message-clause-fetched

@@ -1,5 +1,4 @@
-use Rattle.std.proofs.Common.{◌∙◌, sym}
-use Rattle.cmd_export.proofs.Statuses.{never_good}
+use Rattle.{std.proofs.Common.{◌∙◌, sym}, cmd_export.proofs.Statuses.never_good}
 use Rattle.cmd_export.proofs.stored.FolderFiles.refuse.Goals as goal
 
 pub returns : goal.returns

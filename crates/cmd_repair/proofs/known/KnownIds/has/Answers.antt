@@ -1,6 +1,5 @@
-use Rattle.std.proofs.Common.{◌∙◌, Bor, List, ap, map, subst, sym, ℕ}
-use Rattle.std.specs.{Cmp.Lexicographic.slice_cmp, List.Sorted.IsSortedBy, List.list_any, Ordering.is_lt, Ordering.nat_cmp, Prelude.bytes_eq}
-use Rattle.cmd_repair.proofs.Searching.{searched, sorted_words}
+use Rattle.std.{proofs.Common.{◌∙◌, Bor, List, ap, map, subst, sym, ℕ}, specs.{Cmp.Lexicographic.slice_cmp, List.{Sorted.IsSortedBy, list_any}}}
+use Rattle.{std.specs.{Ordering.{is_lt, nat_cmp}, Prelude.bytes_eq}, cmd_repair.proofs.Searching.{searched, sorted_words}}
 use Rattle.cmd_repair.proofs.known.KnownIds.has.Goals as goal
 
 pub returns : goal.returns

@@ -1,6 +1,5 @@
-use Rattle.std.{proofs.Common.{ap, refl, sym, ◌∙◌}, specs.{Prelude.bytes_eq, List.list_any}}
-use Rattle.echo_addr.specs.Entries.{tokens}
-use Rattle.cmd_show.{specs.Before.SaidBefore, proofs.Judging.links_refused}
+use Rattle.{std.{proofs.Common.{ap, refl, sym, ◌∙◌}, specs.{Prelude.bytes_eq, List.list_any}}, echo_addr.specs.Entries.tokens, cmd_show.specs.Before.SaidBefore}
+use Rattle.cmd_show.proofs.Judging.{links_refused}
 use Rattle.cmd_show.proofs.before.EarlierLines.take_area.Goals as goal
 
 pub returns-in-Some-2 : goal.returns-in-Some-2

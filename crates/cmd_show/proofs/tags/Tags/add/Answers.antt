@@ -1,5 +1,4 @@
-use Rattle.std.{proofs.Common.{◌||◌, map, ap, ◌∙◌}, specs.{Prelude.bytes_eq, List.list_any}}
-use Rattle.cmd_show.proofs.TagKeys.{key_added}
+use Rattle.{std.{proofs.Common.{◌||◌, map, ap, ◌∙◌}, specs.{Prelude.bytes_eq, List.list_any}}, cmd_show.proofs.TagKeys.key_added}
 use Rattle.cmd_show.proofs.tags.Tags.add.Goals as goal
 
 pub returns : goal.returns

@@ -1,5 +1,4 @@
-use Rattle.std.{proofs.Common.{ap, ◌∙◌}, specs.{Prelude.bytes_eq, List.list_any}}
-use Rattle.cmd_show.proofs.TagKeys.{any_key}
+use Rattle.{std.{proofs.Common.{ap, ◌∙◌}, specs.{Prelude.bytes_eq, List.list_any}}, cmd_show.proofs.TagKeys.any_key}
 use Rattle.cmd_show.proofs.tags.Tags.has.Goals as goal
 
 pub returns : goal.returns

@@ -1,5 +1,4 @@
-use Rattle.cmd_status.specs.Devices.{device_of}
-use Rattle.cmd_store.proofs.Runs.{tosses_to}
+use Rattle.{cmd_status.specs.Devices.device_of, cmd_store.proofs.Runs.tosses_to}
 use Rattle.cmd_store.proofs.tossing.TossStoreCommand.run.Goals as goal
 
 pub returns-clause-committed : goal.returns-clause-committed

@@ -1,5 +1,4 @@
-use Rattle.std.proofs.Common.{refl}
-use Rattle.cmd_suppose.proofs.Listers.{run_reports}
+use Rattle.{std.proofs.Common.refl, cmd_suppose.proofs.Listers.run_reports}
 use Rattle.cmd_suppose.proofs.listing.Listing.has.Goals as goal
 
 pub returns : goal.returns

@@ -1,7 +1,6 @@
 use Rattle.std.proofs.{Common.{◌≡◌, ◌++◌, ℕ, List, length, ◌||◌, refl, sym, ap, subst, ◌∙◌, arith, length-append}, lemmas.Bool.or_parts}
-use Rattle.base_store.{specs.{Chains.AreChains, Keys.entry}, proofs.Indexed.chains_stay}
-use Rattle.echo_filed.specs.{Stored.is_short, declared.stored.Version.TheVariants.Second}
-use Rattle.station_bases.proofs.EntryMore.{added}
+use Rattle.{base_store.{specs.{Chains.AreChains, Keys.entry}, proofs.Indexed.chains_stay}, echo_filed.specs.Stored.is_short}
+use Rattle.{echo_filed.specs.declared.stored.Version.TheVariants.Second, station_bases.proofs.EntryMore.added}
 use Rattle.station_bases.proofs.entries.Entries.add.Goals as goal
 
 pub returns-clause-held : goal.returns-clause-held

@@ -1,6 +1,5 @@
 use Rattle.std.{proofs.Common.{◌≡◌, ◌+◌, ◌++◌, ℕ, List, length, take, drop, Option, refl, sym, ap, subst, ◌∙◌, arith}, specs.Prelude.IsSome}
-use Rattle.disk_io.specs.Disk.{bytes_in}
-use Rattle.station_bases.{specs.Entries.{file_bytes, message_bytes}, proofs.EntryMore.{held_still, put_same, put_within}}
+use Rattle.{disk_io.specs.Disk.bytes_in, station_bases.{specs.Entries.{file_bytes, message_bytes}, proofs.EntryMore.{held_still, put_same, put_within}}}
 use Rattle.station_bases.proofs.entries.Entries.commit.Goals as goal
 
 pub returns-clause-held : goal.returns-clause-held

@@ -1,6 +1,4 @@
-use Rattle.std.proofs.Common.{sym, ◌∙◌}
-use Rattle.disk_io.specs.Disk.{bytes_in}
-use Rattle.station_bases.proofs.EntryKeys.{key_recorded, where_recorded}
+use Rattle.{std.proofs.Common.{sym, ◌∙◌}, disk_io.specs.Disk.bytes_in, station_bases.proofs.EntryKeys.{key_recorded, where_recorded}}
 use Rattle.station_bases.proofs.entries.Entries.digest_if_new.Goals as goal
 
 pub returns-in-Ok-false-clause-new : goal.returns-in-Ok-false-clause-new

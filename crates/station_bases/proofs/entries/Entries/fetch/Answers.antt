@@ -1,8 +1,5 @@
-use Rattle.std.{proofs.Common.{◌≡◌, ◌∙◌, Some, arith, sym}, specs.Prelude.slice_get}
-use Rattle.disk_io.specs.Disk.{bytes_in}
-use Rattle.echo_filed.specs.Filed.{Filed}
-use Rattle.base_folder_store.proofs.Causes.{answers_error}
-use Rattle.station_bases.proofs.{EntryKeys.where_recorded, EntryMore.many_held}
+use Rattle.{std.{proofs.Common.{◌≡◌, ◌∙◌, Some, arith, sym}, specs.Prelude.slice_get}, disk_io.specs.Disk.bytes_in, echo_filed.specs.Filed.Filed}
+use Rattle.{base_folder_store.proofs.Causes.answers_error, station_bases.proofs.{EntryKeys.where_recorded, EntryMore.many_held}}
 use Rattle.station_bases.proofs.entries.Entries.fetch.Goals as goal
 
 pub returns-then-place-count-clause-fetched : goal.returns-then-place-count-clause-fetched

@@ -1,5 +1,4 @@
-use Rattle.disk_io.specs.Disk.{bytes_in}
-use Rattle.station_bases.proofs.EntryKeys.{key_recorded, where_recorded}
+use Rattle.{disk_io.specs.Disk.bytes_in, station_bases.proofs.EntryKeys.{key_recorded, where_recorded}}
 use Rattle.station_bases.proofs.entries.Entries.knows.Goals as goal
 
 pub returns-clause-found : goal.returns-clause-found

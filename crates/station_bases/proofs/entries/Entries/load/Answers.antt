@@ -1,8 +1,5 @@
-use Rattle.std.proofs.Common.{length, ◌∙◌, arith}
-use Rattle.disk_io.specs.Disk.{bytes_in}
-use Rattle.base_file.specs.BaseFile.{saved_bytes}
-use Rattle.base_folder_store.proofs.Causes.{answers_whole}
-use Rattle.station_bases.proofs.EntryMore.{few_held, held_loads}
+use Rattle.{std.proofs.Common.{length, ◌∙◌, arith}, disk_io.specs.Disk.bytes_in, base_file.specs.BaseFile.saved_bytes}
+use Rattle.{base_folder_store.proofs.Causes.answers_whole, station_bases.proofs.EntryMore.{few_held, held_loads}}
 use Rattle.station_bases.proofs.entries.Entries.load.Goals as goal
 
 pub returns-in_err-whole-clause-same : goal.returns-in_err-whole-clause-same

@@ -1,6 +1,4 @@
-use Rattle.std.proofs.Common.{ℕ, sym, subst}
-use Rattle.base_store.specs.Store.{all_scanned}
-use Rattle.station_bases.{specs.Entries.HoldEntries, proofs.EntryMore.scanned}
+use Rattle.{std.proofs.Common.{ℕ, sym, subst}, base_store.specs.Store.all_scanned, station_bases.{specs.Entries.HoldEntries, proofs.EntryMore.scanned}}
 use Rattle.station_bases.proofs.entries.Entries.move_to_end.Goals as goal
 
 pub returns-clause-held : goal.returns-clause-held

@@ -1,7 +1,6 @@
-use Rattle.std.{proofs.Common.{◌≡◌, ◌∙◌, Some, ℕ, List, refl, sym, subst}, specs.Prelude.slice_get}
-use Rattle.base_store.proofs.Runs.{quiet_disk}
-use Rattle.echo_filed.specs.{Filed.Filed, Stored.message_in, declared.stored.Version.TheVariants.Second}
-use Rattle.base_folder_store.{specs.{Ahead.IsPartOf, declared.extent.Extent.Extent}, proofs.{Causes.answers_give, Seen.message_at}}
+use Rattle.{std.{proofs.Common.{◌≡◌, ◌∙◌, Some, ℕ, List, refl, sym, subst}, specs.Prelude.slice_get}, base_store.proofs.Runs.quiet_disk}
+use Rattle.{echo_filed.specs.{Filed.Filed, Stored.message_in, declared.stored.Version.TheVariants.Second}, base_folder_store.specs.Ahead.IsPartOf}
+use Rattle.base_folder_store.{specs.declared.extent.Extent.Extent, proofs.{Causes.answers_give, Seen.message_at}}
 use Rattle.station_bases.proofs.Seats.{bytes_are, seat_at}
 use Rattle.station_bases.proofs.entries.Entries.read.Goals as goal
 

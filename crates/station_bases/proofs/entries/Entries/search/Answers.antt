@@ -1,10 +1,8 @@
 use Rattle.std.proofs.{Common.{◌≡◌, ◌≢◌, ◌<◌, ◌≤◌, ◌/◌, ℕ, Bool, List, get_or, length, sym, subst, ◌∙◌, arith}, lemmas.List.Folds.list_any_at}
-use Rattle.std.specs.List.{list_any}
-use Rattle.disk_io.{specs.{Disk.{DiskState, bytes_in}, Runs.ChangesNothing}, proofs.Moments.nothing_twice}
-use Rattle.echo_filed.specs.Filed.{Filed}
-use Rattle.base_store.specs.{Chains.AreChains, Keys.AreWhereRecorded, Keys.digest_at}
-use Rattle.base_folder_store.proofs.{Causes.answers_error, Looked.none_found, Looked.passed_on, Looked.some_message, Looked.stored_of}
-use Rattle.station_bases.{specs.{Entries.message_bytes, declared.entries.Entries.Entries}, proofs.Reach.{reach_still, same_file}}
+use Rattle.{std.specs.List.list_any, disk_io.{specs.{Disk.{DiskState, bytes_in}, Runs.ChangesNothing}, proofs.Moments.nothing_twice}}
+use Rattle.{echo_filed.specs.Filed.Filed, base_store.specs.{Chains.AreChains, Keys.{AreWhereRecorded, digest_at}}}
+use Rattle.{base_folder_store.proofs.{Causes.answers_error, Looked.{none_found, passed_on, some_message, stored_of}}, station_bases.specs.Entries.message_bytes}
+use Rattle.station_bases.{specs.declared.entries.Entries.Entries, proofs.Reach.{reach_still, same_file}}
 use Rattle.station_bases.proofs.entries.Entries.search.Goals as goal
 
 recorded_still : (d0 d1 : DiskState) (path : List ℕ) (e : Entries) (base : List Filed) → ChangesNothing d0 d1 → AreWhereRecorded base (message_bytes (bytes_in (d0.seen path)) e) e.keys.items → AreWhereRecorded base (message_bytes (bytes_in (d1.seen path)) e) e.keys.items

@@ -1,8 +1,5 @@
-use Rattle.std.proofs.Common.{◌≡◌, ◌/◌, ◌<◌, ◌≤◌, ℕ, List, false, length, get_or}
-use Rattle.disk_io.specs.{Disk.Honestly, Disk.bytes_in, Runs.ChangesNothing}
-use Rattle.echo_filed.specs.Filed.{Filed}
-use Rattle.base_store.specs.Keys.{AreWhereRecorded}
-use Rattle.base_folder_store.specs.Answers.{HaveDigest}
+use Rattle.{std.proofs.Common.{◌≡◌, ◌/◌, ◌<◌, ◌≤◌, ℕ, List, false, length, get_or}, disk_io.specs.{Disk.{Honestly, bytes_in}, Runs.ChangesNothing}}
+use Rattle.{echo_filed.specs.Filed.Filed, base_store.specs.Keys.AreWhereRecorded, base_folder_store.specs.Answers.HaveDigest}
 use Rattle.station_bases.specs.Entries.{message_bytes}
 use Rattle.station_bases.proofs.entries.Entries.search.Given as goal
 

@@ -1,8 +1,6 @@
-use Rattle.std.{proofs.Common.{◌≡◌, ℕ, List, refl, arith}, specs.{Prelude.Vec, declared.alloc.Global.Global}}
-use Rattle.base_store.proofs.Runs.{quiet_disk}
-use Rattle.echo_filed.specs.{Stored.stored_bytes, declared.stored.Version.TheVariants.Second}
-use Rattle.base_folder_store.{specs.{Answers.IsStoredOf, declared.extent.Extent.Extent}, proofs.{Causes.answers_give, Looked.seat_stored}}
-use Rattle.station_bases.proofs.Seats.{seat_at}
+use Rattle.{std.{proofs.Common.{◌≡◌, ℕ, refl}, specs.{Prelude.Vec, declared.alloc.Global.Global}}, base_store.proofs.Runs.quiet_disk}
+use Rattle.{echo_filed.specs.{Stored.stored_bytes, declared.stored.Version.TheVariants.Second}, base_folder_store.specs.Answers.IsStoredOf}
+use Rattle.{base_folder_store.{specs.declared.extent.Extent.Extent, proofs.{Causes.answers_give, Looked.seat_stored}}, station_bases.proofs.Seats.seat_at}
 use Rattle.station_bases.proofs.entries.Entries.stored.Goals as goal
 
 pub returns-clause-stored : goal.returns-clause-stored

@@ -1,6 +1,5 @@
-use Rattle.std.proofs.Common.{◌≡◌, ◌≤◌, ◌-◌, ◌/◌, length}
-use Rattle.disk_io.specs.{Disk.Honestly, Disk.bytes_in, Runs.ChangesNothing}
-use Rattle.station_bases.specs.{Entries.AreIndexed, EntryOpening.AreJudged, EntryOpening.IsPartOf}
+use Rattle.{std.proofs.Common.{◌≡◌, ◌≤◌, ◌-◌, ◌/◌, length}, disk_io.specs.{Disk.{Honestly, bytes_in}, Runs.ChangesNothing}}
+use Rattle.station_bases.specs.{Entries.AreIndexed, EntryOpening.{AreJudged, IsPartOf}}
 use Rattle.station_bases.proofs.entries.Entries.take_all.Given as goal
 
 abbrev pub invariant-messages : goal.invariant-messages

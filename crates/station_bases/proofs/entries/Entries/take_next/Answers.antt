@@ -1,11 +1,8 @@
 use Rattle.std.proofs.Common.{◌≡◌, ◌+◌, ◌-◌, ◌++◌, ◌&&◌, ◌||◌, not, nat_lt, ℕ, List, Bool, false, drop, map, Option, sym, ap, subst, ◌∙◌, arith}
-use Rattle.std.{proofs.lemmas.Bool.or_parts, specs.Prelude.IfSome}
-use Rattle.disk_io.specs.Disk.{bytes_in}
-use Rattle.base_file.specs.Base.{is_known}
-use Rattle.base_store.specs.Keys.{digested_key, entry}
-use Rattle.echo_filed.specs.{Stored.message_in, declared.stored.Version.TheVariants.Second}
-use Rattle.station_bases.specs.{Entries.AreEntriesOf, Entries.entry_digest, EntryOpening.IsSoundIn, declared.entries.Entries.Entries, declared.entry_opening.Sound.Sound}
-use Rattle.station_bases.proofs.{EntryJudged.files_judged, EntryJudged.judged_more, Reach.same_file}
+use Rattle.{std.{proofs.lemmas.Bool.or_parts, specs.Prelude.IfSome}, disk_io.specs.Disk.bytes_in, base_file.specs.Base.is_known}
+use Rattle.{base_store.specs.Keys.{digested_key, entry}, echo_filed.specs.{Stored.message_in, declared.stored.Version.TheVariants.Second}}
+use Rattle.station_bases.specs.{Entries.{AreEntriesOf, entry_digest}, EntryOpening.IsSoundIn, declared.{entries.Entries.Entries, entry_opening.Sound.Sound}}
+use Rattle.station_bases.proofs.{EntryJudged.{files_judged, judged_more}, Reach.same_file}
 use Rattle.station_bases.proofs.entries.Entries.take_next.Goals as goal
 
 late : (past short : Bool) → (not past && short) ≡ false → past ≡ false → short ≡ false

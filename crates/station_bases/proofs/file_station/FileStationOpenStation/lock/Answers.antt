@@ -1,7 +1,4 @@
-use Rattle.std.proofs.Common.{inl, inr}
-use Rattle.disk_io.specs.Device.{Failed}
-use Rattle.station.specs.Opening.{HaveFailed}
-use Rattle.station_bases.proofs.Opened.{locked_out}
+use Rattle.{std.proofs.Common.{inl, inr}, disk_io.specs.Device.Failed, station.specs.Opening.HaveFailed, station_bases.proofs.Opened.locked_out}
 use Rattle.station_bases.proofs.file_station.FileStationOpenStation.lock.Goals as goal
 
 pub returns-clause-shut : goal.returns-clause-shut

@@ -1,7 +1,5 @@
-use Rattle.std.proofs.Common.{◌≢◌, All, List, ℕ, inl, subst, sym}
-use Rattle.disk_io.specs.Device.{Failed}
-use Rattle.station.specs.{Links.AreLinks, Opening.HaveFailed, Opening.IsOpened}
-use Rattle.station_bases.specs.{InFile.IsHeld, InFile.IsWithinReach, InFile.file_state, Reading.file_place}
+use Rattle.{std.proofs.Common.{◌≢◌, All, List, ℕ, inl, subst, sym}, disk_io.specs.Device.Failed, station.specs.{Links.AreLinks, Opening.{HaveFailed, IsOpened}}}
+use Rattle.station_bases.specs.{InFile.{IsHeld, IsWithinReach, file_state}, Reading.file_place}
 use Rattle.station_bases.proofs.Opened.{file_shut_wider, is_not_opened, is_opened, read_only}
 use Rattle.station_bases.proofs.file_station.FileStationOpenStation.open.Goals as goal
 

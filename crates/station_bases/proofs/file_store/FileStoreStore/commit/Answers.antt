@@ -1,8 +1,6 @@
-use Rattle.std.{proofs.Common.{List, ℕ, sym, subst}, specs.Prelude.OnOk}
-use Rattle.disk_io.specs.Runs.{ChangesNothing}
-use Rattle.base_store.{specs.Store.{Commits, HasStoreCause, MayCommit}, proofs.Runs.quiet_disk}
-use Rattle.station_bases.specs.{InFile.file_state, declared.held.Held.TheVariants.Apart, declared.held.Held.TheVariants.Whole}
-use Rattle.station_bases.proofs.{FileLooks.apart_cause, FileLooks.apart_committed, FileLooks.apart_either, Written.quiet_commits}
+use Rattle.{std.{proofs.Common.{List, ℕ, sym, subst}, specs.Prelude.OnOk}, disk_io.specs.Runs.ChangesNothing, station_bases.proofs.Written.quiet_commits}
+use Rattle.{base_store.{specs.Store.{Commits, HasStoreCause, MayCommit}, proofs.Runs.quiet_disk}, station_bases.specs.InFile.file_state}
+use Rattle.station_bases.{specs.declared.held.Held.TheVariants.{Apart, Whole}, proofs.FileLooks.{apart_cause, apart_committed, apart_either}}
 use Rattle.station_bases.proofs.file_store.FileStoreStore.commit.Goals as goal
 
 pub returns-in-Apart-clause-committed : goal.returns-in-Apart-clause-committed

@@ -1,6 +1,5 @@
-use Rattle.std.proofs.Common.{subst}
-use Rattle.base_folder_store.proofs.Causes.{on_ok_from}
-use Rattle.station_bases.{specs.InFile.IsWithinReach, proofs.{FileLooks.undone_apart, Reach.fetch_more}}
+use Rattle.{std.proofs.Common.subst, base_folder_store.proofs.Causes.on_ok_from, station_bases.{specs.InFile.IsWithinReach, proofs.FileLooks.undone_apart}}
+use Rattle.station_bases.proofs.Reach.{fetch_more}
 use Rattle.station_bases.proofs.file_store.FileStoreStore.file.Goals as goal
 
 pub returns-in-Apart-clause-undone : goal.returns-in-Apart-clause-undone

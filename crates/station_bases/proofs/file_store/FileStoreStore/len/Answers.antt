@@ -1,5 +1,4 @@
-use Rattle.std.proofs.Common.{arith}
-use Rattle.station_bases.proofs.FileLooks.{counted_apart}
+use Rattle.{std.proofs.Common.arith, station_bases.proofs.FileLooks.counted_apart}
 use Rattle.station_bases.proofs.file_store.FileStoreStore.len.Goals as goal
 
 pub returns-in-Apart-clause-count : goal.returns-in-Apart-clause-count

@@ -1,7 +1,4 @@
-use Rattle.std.proofs.Common.{inl}
-use Rattle.disk_io.specs.Device.{Failed}
-use Rattle.station.specs.Opening.{HaveFailed}
-use Rattle.base_folder_store.specs.State.{IsCached, state_of, where_so}
+use Rattle.{std.proofs.Common.inl, disk_io.specs.Device.Failed, station.specs.Opening.HaveFailed, base_folder_store.specs.State.{IsCached, state_of, where_so}}
 use Rattle.station_bases.proofs.Begun.{folder_shut_wider, is_not_opened, is_opened, shut_untouched}
 use Rattle.station_bases.proofs.folder_station.FolderStationOpenStation.open.Goals as goal
 
