@@ -2,7 +2,7 @@
 use Rattle.std.{proofs.Common.{◌⊎◌, inl, inr, ⊎_elim, ◌∙◌, ℕ, List, Result, Ok, Err, refl, subst, sym, ◌++◌, arith}, specs.Prelude.{OnOk, get_or}}
 use Rattle.{base_file.specs.Base.Base, disk_io.specs.{Disk.{DiskState, Files}, Runs.{ChangesNothing, LeavesOnly, OneStepOn}}}
 use Rattle.{disk_io.proofs.Moments.{left_now, then_nothing, then_run, weaker_run}, echo_links.specs.Links.LinkFile}
-use Rattle.{disk_atomic.specs.{declared.finishing.Left.Left, StagingPaths.{dotted, staging_path}}, cmd_status.specs.Devices.Output}
+use Rattle.{disk_atomic.specs.{Finishing.IsOfLeft, declared.finishing.Left.Left, StagingPaths.{dotted, staging_path}}, cmd_status.specs.Devices.Output}
 use Rattle.{model_steps.specs.{PacketFiles.PacketFile, declared.stamp.Stamp.Stamp}, base_store.specs.Store.{StoreState, all_scanned}}
 use Rattle.{cmd_store.specs.declared.command_error.CommandError.CommandError, station.specs.Beneath.AreSettledByOwn}
 use Rattle.station.specs.{Place.{IsOfPlace, KeepsElsewhere, Place, RepresentsAlone, RepresentsOrWasLeft}, Opening.IsOpenFor}
