@@ -40,6 +40,7 @@ mod Leading
 pub mod Events
 pub mod Runs
 pub mod PacketNames
+mod FolderStays
 pub mod ScanEvents
 pub mod ScanStays
 pub mod Neighbours

@@ -27,7 +27,7 @@ no-staging outbound own name other plain is =
     (plain (length other + 1) 0 lt).no_tilde at
 
 -- nor is it the path that a scan tries
-no-trial : (outbound own name : List ℕ) → All IsNameByte name → outbound ++ name ≡ staging_path outbound own → ⊥
+pub no-trial : (outbound own name : List ℕ) → All IsNameByte name → outbound ++ name ≡ staging_path outbound own → ⊥
 no-trial outbound own name plain is = no-staging outbound own name [] plain (is ∙ ap (λ (l : List ℕ). staging_path l own) (sym (append-nil outbound)))
 
 staged-name : (outbound own name other : List ℕ) → staging_path (outbound ++ name) own ≡ staging_path (outbound ++ other) own → name ≡ other

@@ -15,8 +15,8 @@ use Rattle.echo_toss.specs.PacketsIn.{state_in}
 use Rattle.station.specs.{Place.KeepsElsewhere, Place.Place, Place.RepresentsOrWasLeft, Running.IsNotRun, Running.IsStopped}
 use Rattle.station_scan.specs.Scanning.{AreSentOut, CommitsScan, IsOnItsWay, IsPreparing, IsPutAs, IsPutIn, IsTaken, IsTouched, MayLeave, ScansIn, StopsScanIn, ReportsStop, packets_in}
 use Rattle.station_scan.specs.{Left.IsLeftOf, Publishing.IsOnDisk, Publishing.UnchangedExcept, Sending.HasBytes, Sending.IsStagingOfPacket, Sending.IsOfPacket, Sending.IsWholeAlone, Sends.IsOfThese, Stops.IsOfPlacing, Stops.as_scan, Stops.most, declared.scan_error.ScanError.ScanError, declared.scan_error.ScanError.TheVariants.Command, declared.scan_error.ScanError.TheVariants.Staying}
-use Rattle.law_stations.specs.{Scans.AreAfterScan, Scans.IsAfterCommit, Scans.IsBeforeCommit, Scans.IsCounted, Scans.KeepsFolder, PacketNames.AreOfNet, PacketNames.ArePathsOnDisk, PacketNames.IsListed, PacketNames.IsToName, PacketNames.ShowsFolder, Scans.IsAfterScan, Scans.IsAtPath, Scans.IsStagingPath, Scans.ScansAsEvent, Scans.ScansAsMay, Scans.with_packets_in, Nets.Station, Nets.bytes_of, Nets.with_base, Nets.with_left, Disks.Disks, Disks.HasCursor, Disks.cursor_of, Stopping.EndsSome, Stopping.HasNoneStaged, Stopping.Moves, Stopping.staging_of, OnDisks.IsLinkedOn, OnDisks.IsStationAt, OnDisks.ReadsLinks, OnDisks.ShowsStation}
-use Rattle.law_stations.proofs.{PacketNames.AreNumbered, PacketNames.after-commit, PacketNames.are-numbered, PacketNames.before-all, PacketNames.before-commit, PacketNames.while-preparing, Systems.one-file, Elsewhere.some-stations, Moving.some-waits, Parted.Parted, Parted.all-named, Parted.parted, Whole.disks_with, Whole.with_packets}
+use Rattle.law_stations.specs.{Scans.AreAfterScan, Scans.IsAfterCommit, Scans.IsBeforeCommit, Scans.IsCounted, Scans.KeepsFolder, Scans.SettlesFolder, PacketNames.AreOfNet, PacketNames.ArePathsOnDisk, PacketNames.IsListed, PacketNames.IsToName, PacketNames.ShowsFolder, Scans.IsAfterScan, Scans.IsAtPath, Scans.IsStagingPath, Scans.ScansAsEvent, Scans.ScansAsMay, Scans.with_packets_in, Nets.Station, Nets.bytes_of, Nets.with_base, Nets.with_left, Disks.Disks, Disks.HasCursor, Disks.cursor_of, Stopping.EndsSome, Stopping.HasNoneStaged, Stopping.Moves, Stopping.staging_of, OnDisks.IsLinkedOn, OnDisks.IsStationAt, OnDisks.ReadsLinks, OnDisks.ShowsStation}
+use Rattle.law_stations.proofs.{FolderStays.folder-stays, PacketNames.AreNumbered, PacketNames.after-commit, PacketNames.are-numbered, PacketNames.before-all, PacketNames.before-commit, PacketNames.while-preparing, Systems.one-file, Elsewhere.some-stations, Moving.some-waits, Parted.Parted, Parted.all-named, Parted.parted, Whole.disks_with, Whole.with_packets}
 
 left-away : (is_true : Type 0) (Own : List ℕ → Type 0) (outbound own : List ℕ) (found : List Left) → All (IsLeftOf is_true Own outbound own) found → (m : List ℕ) → (IsTouched Own outbound m → ⊥) → IsOfLeft found m → ⊥
 left-away is_true Own outbound own found each m away (l, has, is) = by (All-contains (IsLeftOf is_true Own outbound own) found l each has) is
@@ -295,7 +295,7 @@ module _ (stamp : Stamp) (place : Place) (links outbound : List ℕ) (IsTrue : F
           ]
 
       -- if it ended well
-      module _ (sent : AreSentOut (IsTrue put.opened) place.is_own outbound own (place.represents next) base.cursor put.found files put.opened new) where
+      module _ (sent : AreSentOut (IsTrue put.opened) place.is_own outbound own (IsOnDisk old) (place.represents next) base.cursor put.found files put.opened new) where
         all-parted : (c : Files) → AllByRecursion (IsAtPath outbound c) files → (p : Part c) × (p.waiting ≡ [])
         all-parted c all =
             all-named (IsAtPath outbound c) (IsStagingPath outbound own c) i base.cursor (length base.messages) files ended.staging (with_left ended.net i [] next) now-has
@@ -308,6 +308,11 @@ module _ (stamp : Stamp) (place : Place) (links outbound : List ℕ) (IsTrue : F
 
         wholes : All (IsWholeAlone outbound own new.seen) files
         wholes k z lt = inl ((sent.packets k z lt).seen, inr (sent.gone k z lt))
+
+        settles : SettlesFolder IsTrue place outbound i was old d new
+        settles listed shown other =
+            folder-stays place.is_own outbound own (place.represents next) base.cursor files old new (IsTrue put.opened) (listed put.opened put.elsewhere) put.found put.each put.opened put.elsewhere (shown.files file says).free sent other
+            (shown.on_disk other)
 
         found-so : IsAfterScan stamp IsTrue place links outbound i d ended was old new
         found-so =
@@ -324,6 +329,7 @@ module _ (stamp : Stamp) (place : Place) (links outbound : List ℕ) (IsTrue : F
                     either = inr (sent.shown, wholes, sent.bytes);
                   })
                   wholes parts.0;
+              folder_on_disk = settles;
               none_waits = parts.1;
               at = record {
                 shows = record { station = with_base next was; there = now-there; of_links = same-links ∙ at.shows.of_links; represented = sent.shown };
@@ -336,8 +342,8 @@ module _ (stamp : Stamp) (place : Place) (links outbound : List ℕ) (IsTrue : F
       placed : (fault : Fault) → result ≡ Err (Command (Met fault)) → ⊥
       placed fault is = subst (λ (r : Result (Unit {0}) ScanError). IfErr r (IsOfPlacing failed (IsTaken place.is_own outbound own base.cursor put.found files put.opened) (most < base.cursor))) is put.why
 
-      sent-out : result ≡ Ok tt → AreSentOut (IsTrue put.opened) place.is_own outbound own (place.represents next) base.cursor put.found files put.opened new
-      sent-out ok = subst (λ (r : Result (Unit {0}) ScanError). OnOk r (AreSentOut (IsTrue put.opened) place.is_own outbound own (place.represents next) base.cursor put.found files put.opened new)) ok put.sent
+      sent-out : result ≡ Ok tt → AreSentOut (IsTrue put.opened) place.is_own outbound own (IsOnDisk old) (place.represents next) base.cursor put.found files put.opened new
+      sent-out ok = subst (λ (r : Result (Unit {0}) ScanError). OnOk r (AreSentOut (IsTrue put.opened) place.is_own outbound own (IsOnDisk old) (place.represents next) base.cursor put.found files put.opened new)) ok put.sent
 
       put-so : ScansAsEvent stamp place links outbound IsTrue i d ended was old new result
       put-so = record {

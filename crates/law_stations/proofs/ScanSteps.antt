@@ -91,7 +91,7 @@ module _ {D Kept : Type 0} (state : D → DiskState) (place : Kept → Place) (I
   goes-on : ScanGoesOn state place seats seat i stamp d ended was old whole result
   goes-on = record {
     cut = cut;
-    ended = λ ok kept on.
+    ended = λ ok kept.
         let after = does.done ok in (
           record {
             command = Scan stamp;
@@ -104,7 +104,7 @@ module _ {D Kept : Type 0} (state : D → DiskState) (place : Kept → Place) (I
                 on_disk = after.on_disk;
                 folder = record {
                   files = shown-as after.scan.shows.station after.at.shows.station (state whole).seen after.scan.after after.scan.shows.there after.at.shows.there (after.folder listed counted represented.folder);
-                  on_disk = on;
+                  on_disk = after.folder_on_disk listed represented.folder;
                 };
                 kept = λ shared. kept shared after.at.shows.station.base after.at.shows.represented;
               };

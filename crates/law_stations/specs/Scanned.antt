@@ -3,7 +3,7 @@ use Rattle.{std.specs.Prelude.{◌≡◌, ◌⊎◌, ℕ, List, Option, None, Re
 use Rattle.{cmd_status.specs.declared.fault.Fault.Fault, model_steps.specs.declared.stamp.Stamp.Stamp, cmd_store.specs.Coming.Coming}
 use Rattle.{cmd_store.specs.declared.command_error.CommandError.CommandError, station.specs.Place.Place, law_stations.specs.Steps.{HasEnded, IsAllOnDisk}}
 use Rattle.{station_scan.specs.declared.scan_error.ScanError.ScanError, law_stations.specs.{Commands.{Command, Scan, whole_of}, Kinds.IsToss}}
-use Rattle.law_stations.specs.{Nets.{Station, with_indexes}, Disks.Disks, OnDisks.{IsAsBefore, TossesAsEvent}, PacketNames.{IsFolderOn, IsListed, ShowsFolder}}
+use Rattle.law_stations.specs.{Nets.{Station, with_indexes}, Disks.Disks, OnDisks.{IsAsBefore, TossesAsEvent}, PacketNames.{IsListed, ShowsFolder}}
 use Rattle.law_stations.specs.{Scans.{AreAfterScan, IsCounted, ScansAsEvent}, Asked.{GoesOnCut, GoesOnEnded, IsKeptWhereShared}, Seats.{Seat, RepresentsSeat}}
 
 -- The packets that a toss tossed whole are delivered.
@@ -27,13 +27,13 @@ HavePackets stamp place links outbound i d ended base c next = (after : AreAfter
 
 -- Of a scan with this timestamp, where the net without earlier staging files is `finished`. If a crash cuts it, the net goes on by its
 -- command event. Before the commit it is as it was, or only earlier staging files are finished. Then the files have the packets.
--- If the scan ends well, and its folder is on the disk, the net goes on so too. If station and folder are unchanged, as after a
+-- If the scan ends well, the net goes on so too. If station and folder are unchanged, as after a
 -- fault, the net goes on by no event.
 pub record ScanGoesOn {D Kept : Type 0} (state : D → DiskState) (place : Kept → Place) (seats : List (Seat Kept)) (seat : Seat Kept) (i : ℕ) (stamp : Stamp) (d finished : Disks) (was : Station) (old whole : D) (result : Result (Unit {0}) ScanError) : Type 0 where
   pub cut : (begun : D) → (state whole).left_since (state old).moment (state begun).seen → IsAllOnDisk (state begun)
       → (goes : GoesOnCut (IsScan stamp) place seat i d (state old) (state whole) (state begun))
       × (((goes.next ≡ d) ⊎ (goes.next ≡ finished)) ⊎ HavePackets stamp (place seat.kept) seat.links seat.outbound i d finished was.base (state begun).seen goes.next)
-  pub ended : result ≡ Ok tt → IsKeptWhereShared place seats seat i (state whole) → IsFolderOn (place seat.kept) seat.outbound (state whole)
+  pub ended : result ≡ Ok tt → IsKeptWhereShared place seats seat i (state whole)
       → (goes : GoesOnEnded (IsScan stamp) place seats seat i d (state old) (state whole))
       × HavePackets stamp (place seat.kept) seat.links seat.outbound i d finished was.base (state whole).seen goes.next
   pub none : IsAsBefore (place seat.kept) seat.links i d (state whole) → IsKeptWhereShared place seats seat i (state whole) → ShowsFolder (place seat.kept) seat.outbound i was (state whole) d

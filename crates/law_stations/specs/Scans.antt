@@ -5,7 +5,7 @@ use Rattle.{disk_atomic.specs.StagingPaths.{dotted, staging_path}, cmd_status.sp
 use Rattle.{model_steps.specs.declared.stamp.Stamp.Stamp, cmd_store.specs.declared.command_error.CommandError.TheVariants.Met, station.specs.Place.Place}
 use Rattle.station_scan.specs.{Scanning.IsTouched, declared.scan_error.ScanError.{ScanError, TheVariants.Command}}
 use Rattle.law_stations.specs.{OnDisks.{IsAsBefore, IsLinkedOn, IsStationAt, LeavesElsewhere, ReadsLinks, ShowsStation}, Commands.Scan}
-use Rattle.law_stations.specs.{Nets.{Station, bytes_of}, Disks.Disks, PacketNames.{IsFolderIn, IsListed, ShowsFolder}}
+use Rattle.law_stations.specs.{Nets.{Station, bytes_of}, Disks.Disks, PacketNames.{IsFolderIn, IsFolderOn, IsListed, ShowsFolder}}
 use Rattle.law_stations.specs.Stopping.{EndsSome, HasNoneStaged, PartialEffect, staging_of}
 
 -- The packet is whole at its path.
@@ -41,6 +41,10 @@ abbrev pub KeepsFolder : (Files → Type 0) → Place → List ℕ → ℕ → S
 KeepsFolder IsTrue place outbound i was old d station c next =
     IsListed IsTrue place.is_own old → IsCounted was.base → ShowsFolder place outbound i was old d → IsFolderIn place outbound i station c next
 
+-- Let the list of earlier packets be true, and the folder be as the first net has it. Then the folder is on the disk.
+abbrev pub SettlesFolder : (Files → Type 0) → Place → List ℕ → ℕ → Station → DiskState → Disks → DiskState → Type 0
+SettlesFolder IsTrue place outbound i was old d new = IsListed IsTrue place.is_own old → ShowsFolder place outbound i was old d → IsFolderOn place outbound new
+
 -- The station, with its folder, after the commit of a scan.
 pub record IsAfterCommit (stamp : Stamp) (IsTrue : Files → Type 0) (place : Place) (links outbound : List ℕ) (i : ℕ) (d ended : Disks) (was : Station) (old : DiskState) (c : Files) : Type 0 where
   pub scan : AreAfterScan stamp place links outbound i d ended was.base c
@@ -51,6 +55,7 @@ pub record IsAfterCommit (stamp : Stamp) (IsTrue : Files → Type 0) (place : Pl
 pub record IsAfterScan (stamp : Stamp) (IsTrue : Files → Type 0) (place : Place) (links outbound : List ℕ) (i : ℕ) (d ended : Disks) (was : Station) (old new : DiskState) : Type 0 where
   pub scan : AreAfterScan stamp place links outbound i d ended was.base new.seen
   pub folder : KeepsFolder IsTrue place outbound i was old d scan.shows.station new.seen scan.after
+  pub folder_on_disk : SettlesFolder IsTrue place outbound i was old d new
   pub none_waits : scan.waiting ≡ []
   pub at : IsStationAt place links i new scan.after
   pub on_disk : (c : Files) → new.may_leave c → ShowsStation place links i c scan.after

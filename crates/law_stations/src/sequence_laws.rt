@@ -24,8 +24,7 @@ pub fn tosses_continue<'a, D: Disk, P: OpenStation<'a, D>, O: OpenStation<'a, D>
     ensures { TossesGoOn D.state (either P.place O.place) }
 {}
 
-/// Of a scan: whatever crash cuts it, if it ends well, and if it leaves the station as it was. If it ends well, its folder
-/// must be on the disk.
+/// Of a scan: whatever crash cuts it, if it ends well, and if it leaves the station as it was.
 pub fn scans_continue<'a, D: Disk, P: OpenStation<'a, D>, O: OpenStation<'a, D>, G: ListStaged>(
     _listing: &G,
 )

@@ -6,9 +6,9 @@ use Rattle.disk_atomic.{specs.{Outgoing.{IsAtStaging, IsFilled, IsFree, SendsByt
 use Rattle.{echo_addr.specs.declared.address.Address.Address, model_steps.specs.{PacketFiles.PacketFile, Scanning.header_to}}
 use Rattle.{cmd_store.specs.PacketLines.{file_sent, packet_name}, echo_toss.specs.Counts.{bytes_for, link_set}}
 use Rattle.echo_toss.{specs.Exports.{OutgoingMessage as Sent, nowhere, packet_out}, proofs.Counts.scanned_to}
-use Rattle.station_scan.specs.Sending.{AreRoutes, HasBytes, IsAtItsPath, IsFreeAt, IsOfPacket, IsOffOwn, IsStagingGone, IsStagingOfPacket, IsWhole, IsWholeAlone, file_paths, for_address}
+use Rattle.station_scan.specs.Sending.{AreRoutes, HasBytes, IsAtItsPath, IsFreeAt, IsOfPacket, IsOffOwn, IsStagingGone, IsStagingOfPacket, IsStagingOn, IsWhole, IsWholeAlone, file_paths, for_address}
 use Rattle.station_scan.specs.Passing.{AreFor, FitTo, IsFront, IsGrowingTo, IsRouted, IsStagingTo, IsTakenFor, all_sent, is_made, links_to}
-use Rattle.station_scan.specs.{Fitting.{AreFit, AreTaken}, Publishing.{IsFreeIn, IsGoingAt, ended_in, no_files}, Scanning.packets_in}
+use Rattle.station_scan.specs.{Fitting.{AreFit, AreTaken}, Publishing.{IsFreeIn, IsGoingAt, IsOnDisk, IsStagingOnDisk, ended_in, no_files}, Scanning.packets_in}
 use Rattle.station_scan.{specs.declared.sending.Sending.Sending, proofs.Lists.{all_of_map, contains_map, kept_passes, map_twice}}
 use Rattle.station_scan.proofs.Routes.{address_for, all_for, made_wider, plain_name}
 
@@ -90,6 +90,9 @@ module _ (to : Sending) (planned : AreRoutes to) (base : Base) (packets : List O
 
     pub none_staging : All (IsStagingGone to.outbound.now to.own.now disk.seen) (files_to to base)
     none_staging = all_files (IsStagingGone to.outbound.now to.own.now disk.seen) (λ k z lt. ap disk.seen (sym (for.routed k z lt).staging) ∙ (all k z lt).gone)
+
+  pub staging_on : (disk : DiskState) → All (IsStagingOnDisk disk) packets → All (IsStagingOn to.outbound.now to.own.now disk) (files_to to base)
+  staging_on disk all = all_files (IsStagingOn to.outbound.now to.own.now disk) (λ k z lt. subst (IsOnDisk disk) (for.routed k z lt).staging (all k z lt))
 
   pub files_bytes : All (SendsBytes (for_address (content_of to base))) packets → All HasBytes (files_to to base)
   files_bytes all = all_files HasBytes all

@@ -1,4 +1,4 @@
-mod Lists
+pub mod Lists
 mod Names
 mod Found
 mod Lefts

@@ -1,7 +1,7 @@
 -- A store that was looked through, before packets were sent out with its commit.
 use Rattle.std.{proofs.Common.{◌≡◌, ◌⊎◌, inl, inr, ⊎_elim, ◌∙◌, ℕ, List, refl, subst, arith}, specs.Prelude.{All, Err, Ok, OnOk, Result}}
 use Rattle.disk_io.{specs.{Disk.{DiskState, Files}, Runs.{ChangesNothing, LeavesOnly, OneStepOn}}, proofs.Moments.{then_run, weaker_run}}
-use Rattle.{disk_atomic.specs.declared.finishing.Left.Left, cmd_store.specs.declared.command_error.CommandError.CommandError}
+use Rattle.{disk_atomic.specs.{Finishing.IsOfLeft, declared.finishing.Left.Left}, cmd_store.specs.declared.command_error.CommandError.CommandError}
 use Rattle.{model_steps.specs.PacketFiles.PacketFile, station_scan.specs.Scanning.{AreSentOut, CommitsScan, IsTaken, PreparesScan, SendsOut, StopsScan}}
 use Rattle.station_scan.specs.{Left.IsLeftOf, Publishing.IsOnDisk, Sends.WasTriedFor, declared.scan_error.ScanError.{ScanError, TheVariants.Staying}}
 use Rattle.station_scan.proofs.{Lefts.finishes_none, Staged.tried_before, Stops.{put_wider, tells_as}}
@@ -18,6 +18,9 @@ module _ (Own : List ℕ → Type 0) (outbound own : List ℕ) (Stays Comes Stay
   abbrev After : Files → Type 0
   After c = OneStepOn (PreparesScan outbound own Stayed cursor found files) d1 c ⊎ CommitsScan is_true Own outbound own (IsOnDisk d1) Stayed Came cursor found files d1.seen c
 
+  looked_on : {E : Type 0} (m : List ℕ) → (IsOnDisk d0 m × (IsOfLeft found m → ⊥)) ⊎ E → (IsOnDisk d1 m × (IsOfLeft found m → ⊥)) ⊎ E
+  looked_on {E} m on = ⊎_elim (λ (is : IsOnDisk d0 m × (IsOfLeft found m → ⊥)). inl ((quiet.named m (λ h. h) is.0.0, quiet.flushed m (λ h. h) is.0.1), is.1)) (λ (ended : E). inr ended) on
+
   commits_looked : (c : Files) → CommitsScan is_true Own outbound own (IsOnDisk d1) Stayed Came cursor found files d1.seen c → CommitsScan is_true Own outbound own (IsOnDisk d0) Stays Comes cursor found files d0.seen c
   commits_looked c with =
       let at : CommitsScan is_true Own outbound own (IsOnDisk d1) Stayed Came cursor found files d0.seen c =
@@ -27,7 +30,7 @@ module _ (Own : List ℕ → Type 0) (outbound own : List ℕ) (Stays Comes Stay
         between = at.between;
         ended = at.ended;
         staging_them = at.staging_them;
-        others = λ m other on. at.others m other (⊎_elim (λ is. inl ((quiet.named m (λ h. h) is.0.0, quiet.flushed m (λ h. h) is.0.1), is.1)) (λ ended. inr ended) on);
+        others = λ m other on. at.others m other (looked_on m on);
         either = ⊎_elim (λ none. inl (stays c none.0, none.1)) (λ all. inr (comes c all.0, all.1, all.2)) at.either;
       }
 
@@ -42,10 +45,10 @@ module _ (Own : List ℕ → Type 0) (outbound own : List ℕ) (Stays Comes Stay
       (weaker_run d0 d1 d0.may_leave Before quiet.run (λ c left. inl (c, left, record { between = c; ends = finishes_none cursor found c; writes = λ m other. refl; represented = stood c left })))
       run looked_step
 
-  looked_sent : (result : Result (Unit {0}) ScanError) → OnOk result (AreSentOut is_true Own outbound own Came cursor found files d1.seen d2) → OnOk result (AreSentOut is_true Own outbound own Comes cursor found files d0.seen d2)
+  looked_sent : (result : Result (Unit {0}) ScanError) → OnOk result (AreSentOut is_true Own outbound own (IsOnDisk d1) Came cursor found files d1.seen d2) → OnOk result (AreSentOut is_true Own outbound own (IsOnDisk d0) Comes cursor found files d0.seen d2)
   looked_sent (Ok done) sent =
-      let at : AreSentOut is_true Own outbound own Came cursor found files d0.seen d2 =
-      subst (λ (f : Files). AreSentOut is_true Own outbound own Came cursor found files f d2) (same_seen d0 d1 quiet) sent in
+      let at : AreSentOut is_true Own outbound own (IsOnDisk d1) Came cursor found files d0.seen d2 =
+      subst (λ (f : Files). AreSentOut is_true Own outbound own (IsOnDisk d1) Came cursor found files f d2) (same_seen d0 d1 quiet) sent in
       record {
         all = at.all;
         between = at.between;
@@ -58,6 +61,8 @@ module _ (Own : List ℕ → Type 0) (outbound own : List ℕ) (Stays Comes Stay
         on_disk = λ c left. comes c (at.on_disk c left);
         others = at.others;
         bytes = at.bytes;
+        settled = at.settled;
+        still = λ m other on. at.still m other (looked_on m on);
       }
   looked_sent (Err cause) sent = tt
 
@@ -71,7 +76,7 @@ looked_out state Own outbound own Stays Comes Stayed Came cursor files d0 d1 d2 
     record {
       found = found;
       each = subst (λ (f : Files). All (IsLeftOf (IsTrue f) Own outbound own) found) seen sends.each;
-      sent = subst (λ (f : Files). OnOk result (AreSentOut (IsTrue f) Own outbound own Comes cursor found files d0.seen d2)) seen
+      sent = subst (λ (f : Files). OnOk result (AreSentOut (IsTrue f) Own outbound own (IsOnDisk d0) Comes cursor found files d0.seen d2)) seen
           (looked_sent Own outbound own Stays Comes Stayed Came cursor files d0 d1 d2 quiet stays comes stood found (IsTrue d1.seen) result sends.sent);
       crash = subst (λ (f : Files). LeavesOnly d0 d2 (λ c. OneStepOn (PreparesScan outbound own Stays cursor found files) d0 c ⊎ CommitsScan (IsTrue f) Own outbound own (IsOnDisk d0) Stays Comes cursor found files d0.seen c)) seen
           (looked_moments Own outbound own Stays Comes Stayed Came cursor files d0 d1 d2 quiet stays comes stood found (IsTrue d1.seen) sends.crash);

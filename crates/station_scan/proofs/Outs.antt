@@ -4,10 +4,10 @@ use Rattle.{std.specs.Prelude.{Err, IfErr, Ok, OnOk, Result}, base_file.specs.Ba
 use Rattle.{disk_io.proofs.Moments.{left_now, then_run, weaker_run}, disk_atomic.specs.Finishing.{FinishesEach, IsOfLeft, IsOver}}
 use Rattle.disk_atomic.specs.declared.{finishing.Left.Left, placing_error.PlacingError.{PlacingError, TheVariants.{Device, Taken}}}
 use Rattle.{model_steps.specs.PacketFiles.PacketFile, base_store.{specs.Store.StoreState, proofs.Runs.same_twice}}
-use Rattle.{station.specs.Beneath.{HoldsAsBefore, IsUsedAt}, station_scan.specs.Left.{AreFreeLeft, EndsLeft, IsEnded, IsLeftOf, IsOfNameOff}}
+use Rattle.{station.specs.Beneath.{HoldsAsBefore, IsUsedAt}, station_scan.specs.Left.{AreFreeLeft, EndsLeft, IsEnded, IsEndedAt, IsLeftOf, IsOfNameOff}}
 use Rattle.station_scan.{specs.declared.scan_error.ScanError.TheVariants.Placing, proofs.Stops.{placing_why, put_wider, tells_as}}
 use Rattle.station_scan.specs.{Scanning.{AreSentOut, CommitsScan, IsTaken, IsTouched, PreparesScan, SendsOut}, Fitting.AreTaken}
-use Rattle.station_scan.specs.{Publishing.{IsOnDisk, KeepsStoreBut}, Sending.{HasBytes, IsAtItsPath, IsFreeAt, IsStagingGone}}
+use Rattle.station_scan.specs.{Publishing.{IsOnDisk, KeepsStoreBut}, Sending.{HasBytes, IsAtItsPath, IsFreeAt, IsStagingGone, IsStagingOn}}
 use Rattle.station_scan.specs.{Sends.{AreSentOn, IsLeftAs, IsOfThese, SendsThese, WasTriedFor, WritesStaging}, Stops.{IsOfPlacing, most}}
 use Rattle.station_scan.{specs.declared.scan_error.ScanError.ScanError, proofs.{Published.{keeps_only, keeps_then, keeps_wider}, Staged.tried_before}}
 
@@ -85,6 +85,12 @@ module _ (Own : List ℕ → Type 0) (outbound own : List ℕ) (is_true failed :
     of_these : (m : List ℕ) → IsOfThese s1.is_own outbound own files m → IsOfThese Own outbound own files m
     of_these m of = ⊎_elim (λ o. inl (inside m ((used.same.own m).0 o))) (λ p. inr p) of
 
+    -- what was on the disk is, once they are finished
+    on_disk_ended : (m : List ℕ) → (IsOnDisk s0.disk m × (IsOfLeft these m → ⊥)) ⊎ IsEndedAt cursor these s1.disk.seen m → IsOnDisk s1.disk m
+    on_disk_ended m at =
+        ⊎_elim (λ (on : IsOnDisk s0.disk m × (IsOfLeft these m → ⊥)). (ends.changes.named m on.1 on.0.0, ends.changes.flushed m on.1 on.0.1))
+        (λ (ended : IsEndedAt cursor these s1.disk.seen m). (ends.named m (ended.0, ended.1, ⊎_elim (λ e. inl e) (λ p. inr p.0) ended.2), ends.flushed m ended)) at
+
     sent_moment : (c : Files) → SendsThese s1 outbound own files first next c → All_may c
     sent_moment c (inl over) =
         let b = over.writes.0 in
@@ -95,17 +101,14 @@ module _ (Own : List ℕ → Type 0) (outbound own : List ℕ) (is_true failed :
       between = s1.disk.seen;
       ended = all_ended;
       staging_them = ends.changes.seen;
-      others = λ m other at.
-          with.others m (λ of. other (of_these m of))
-          (⊎_elim (λ on. (ends.changes.named m on.1 on.0.0, ends.changes.flushed m on.1 on.0.1))
-          (λ ended. (ends.named m (ended.0, ended.1, ⊎_elim (λ e. inl e) (λ p. inr p.0) ended.2), ends.flushed m ended)) at);
+      others = λ m other at. with.others m (λ of. other (of_these m of)) (on_disk_ended m at);
       either = ⊎_elim (λ none. inl ((used.same.represented first c).0 none.0, none.1)) (λ all. inr ((used.same.represented next c).0 all.0, all.1, all.2)) with.either;
     })
 
     sent_crash : LeavesOnly s1.disk s2.disk (SendsThese s1 outbound own files first next) → LeavesOnly s0.disk s2.disk All_may
     sent_crash run = then_run s0.disk s1.disk s2.disk All_may (SendsThese s1 outbound own files first next) (ended_moments (Ok tt) ends) run sent_moment
 
-    sent_out : (made : Base → List PacketFile) → made next ≡ files → All (IsFreeAt outbound s1.disk.seen) files → AreSentOn outbound own made s1 s2 → AreSentOut is_true Own outbound own Comes cursor these files s0.disk.seen s2.disk
+    sent_out : (made : Base → List PacketFile) → made next ≡ files → All (IsFreeAt outbound s1.disk.seen) files → AreSentOn outbound own made s1 s2 → AreSentOut is_true Own outbound own (IsOnDisk s0.disk) Comes cursor these files s0.disk.seen s2.disk
     sent_out made are free sent =
         let kept_next = used.holds.keeps next is in
         let now = sent.committed.committed honest2 next kept_next in
@@ -122,9 +125,14 @@ module _ (Own : List ℕ → Type 0) (outbound own : List ℕ) (is_true failed :
           on_disk = λ c left. back c (s2.stays honest2 sent.committed.ready next now c left);
           others = λ m other. kept.keeps.seen m (λ of. other (of_these m of));
           bytes = subst (λ (l : List PacketFile). All HasBytes l) are (sent.bytes honest2 next kept_next);
+          settled = subst (λ (l : List PacketFile). All (IsStagingOn outbound own s2.disk) l) are (sent.settled honest2 next kept_next);
+          still = λ m other at.
+              let on = on_disk_ended m at in
+              let off : IsOfThese s1.is_own outbound own files m → ⊥ = λ of. other (of_these m of) in
+              (kept.keeps.named m off on.0, kept.keeps.flushed m off on.1);
         }
 
-    sent_if : (made : Base → List PacketFile) → made next ≡ files → (result : Result (Unit {0}) ScanError) → OnOk result (All (IsFreeAt outbound s1.disk.seen) files) → OnOk result (AreSentOn outbound own made s1 s2) → OnOk result (AreSentOut is_true Own outbound own Comes cursor these files s0.disk.seen s2.disk)
+    sent_if : (made : Base → List PacketFile) → made next ≡ files → (result : Result (Unit {0}) ScanError) → OnOk result (All (IsFreeAt outbound s1.disk.seen) files) → OnOk result (AreSentOn outbound own made s1 s2) → OnOk result (AreSentOut is_true Own outbound own (IsOnDisk s0.disk) Comes cursor these files s0.disk.seen s2.disk)
     sent_if made are (Ok done) free sent = sent_out made are free sent
     sent_if made are (Err cause) free sent = tt
 

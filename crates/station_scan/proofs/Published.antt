@@ -6,7 +6,7 @@ use Rattle.disk_io.{specs.Runs.{ChangesNothing, LeavesOnly, OneStepOn}, proofs.M
 use Rattle.disk_atomic.specs.{Outgoing.{IsAtStaging, IsFilled, IsOfOne, IsStaged, SendsBytes, staged_in}, declared.outgoing.Outgoing.Outgoing}
 use Rattle.disk_atomic.specs.{Changes.{ChangesOnly, DifferAt, HasOnDisk}, Naming.{HasItsPath, NamesEach, IsWholeAtEither}, Publishing.IsApartFrom}
 use Rattle.base_store.{specs.Store.{Commits, IsSameStore, LeavesEither, MayCommit, StoreState}, proofs.Runs.same_twice}
-use Rattle.station_scan.specs.Publishing.{AreGoing, ArePublished, AreStaged, CommitsWith, IsGoingAt, IsNamedAs, IsPublishedAt, IsWritten, UnchangedExcept, KeepsStoreBut, NoneStays, PublishesOn, no_files, StopsCommitting, StopsPublishing, staged_before}
+use Rattle.station_scan.specs.Publishing.{AreGoing, ArePublished, AreStaged, CommitsWith, IsGoingAt, IsNamedAs, IsPublishedAt, IsStagingOnDisk, IsWritten, UnchangedExcept, KeepsStoreBut, NoneStays, PublishesOn, no_files, StopsCommitting, StopsPublishing, staged_before}
 use Rattle.station_scan.specs.declared.publish_error.PublishError.{PublishError}
 
 -- no own path of the store belongs to a packet
@@ -174,6 +174,7 @@ module _ (outbound trial : List ℕ) (content : Base → Outgoing → List ℕ) 
     committed = commits_used (IsAtStaging packets trial) s0 s1 s2 used are.committed;
     named = λ honest base kept. path_as (staged_in s1.disk.seen) (content base) packets (written (honest_run honest) base kept) s2.disk (are.named honest base (used.holds.keeps base kept));
     bytes = λ honest base kept. bytes_as (staged_in s1.disk.seen) (content base) packets (written (honest_run honest) base kept) (are.bytes honest base (used.holds.keeps base kept));
+    settled = are.settled;
   }
 
   pub published_from : (result : Result (Unit {0}) PublishError) → OnOk result (ArePublished (staged_before s1) packets s1 s2) → OnOk result (ArePublished content packets s0 s2)
@@ -191,6 +192,7 @@ stops_before content packets trial s0 s1 why h1 h2 = grind arith
 
 -- whether all got their paths
 pub published_if : (packets : List Outgoing) (s0 s1 s2 : StoreState) (named : Result Bool DiskError) (result : Result (Unit {0}) PublishError) → IsNamedAs named result → (s2.disk.is_honest → s0.disk.is_honest)
-    → All (λ p. staged_in s1.disk.seen p ≡ staged_in s0.disk.seen p) packets → Honestly s2.disk (IfOk named (λ all. all ≡ true → All (HasItsPath (staged_in s1.disk.seen) s2.disk) packets)) → Commits s0 s2
+    → All (λ p. staged_in s1.disk.seen p ≡ staged_in s0.disk.seen p) packets → Honestly s2.disk (IfOk named (λ all. all ≡ true → All (HasItsPath (staged_in s1.disk.seen) s2.disk) packets))
+    → Honestly s2.disk (IfOk named (λ all. all ≡ true → All (IsStagingOnDisk s2.disk) packets)) → Commits s0 s2
     → Honestly s0.disk (All (SendsBytes (staged_in s0.disk.seen)) packets) → OnOk result (ArePublished (staged_before s0) packets s0 s2)
-published_if packets s0 s1 s2 named result h1 h2 h3 h4 h5 h6 = grind (arith, path_as)
+published_if packets s0 s1 s2 named result h1 h2 h3 h4 h5 h6 h7 = grind (arith, path_as)

@@ -2,7 +2,7 @@
 use Rattle.std.{proofs.Common.{◌⊎◌, inl, inr, ⊎_elim, ◌∙◌, ℕ, List, Result, Ok, Err, refl, subst, sym, ◌++◌, arith}, specs.Prelude.{OnOk, get_or}}
 use Rattle.{base_file.specs.Base.Base, disk_io.specs.{Disk.{DiskState, Files}, Runs.{ChangesNothing, LeavesOnly, OneStepOn}}}
 use Rattle.{disk_io.proofs.Moments.{left_now, then_nothing, then_run, weaker_run}, echo_links.specs.Links.LinkFile}
-use Rattle.{disk_atomic.specs.{declared.finishing.Left.Left, StagingPaths.{dotted, staging_path}}, cmd_status.specs.Devices.Output}
+use Rattle.{disk_atomic.specs.{Finishing.IsOfLeft, declared.finishing.Left.Left, StagingPaths.{dotted, staging_path}}, cmd_status.specs.Devices.Output}
 use Rattle.{model_steps.specs.{PacketFiles.PacketFile, declared.stamp.Stamp.Stamp}, base_store.specs.Store.{StoreState, all_scanned}}
 use Rattle.{cmd_store.specs.declared.command_error.CommandError.CommandError, station.specs.Beneath.AreSettledByOwn}
 use Rattle.station.specs.{Place.{IsOfPlace, KeepsElsewhere, Place, RepresentsAlone, RepresentsOrWasLeft}, Opening.IsOpenFor}
@@ -136,6 +136,9 @@ module _ {D : Type 0} (state : D → DiskState) (place : Place) (d0 d2 : DiskSta
       on_disk_still : (m : List ℕ) → (place.is_own m → ⊥) → IsOnDisk d0 m → IsOnDisk s1.disk m
       on_disk_still m out on = (of.elsewhere.named m out on.0, of.elsewhere.flushed m out on.1)
 
+      on_disk_then : {E : Type 0} (m : List ℕ) → (place.is_own m → ⊥) → (IsOnDisk d0 m × (IsOfLeft found m → ⊥)) ⊎ E → (IsOnDisk s1.disk m × (IsOfLeft found m → ⊥)) ⊎ E
+      on_disk_then {E} m out at = ⊎_elim (λ (on : IsOnDisk d0 m × (IsOfLeft found m → ⊥)). inl (on_disk_still m out on.0, on.1)) (λ (ended : E). inr ended) at
+
       sent_on : (c : Files) → Sends c → On_way c
       sent_on c (inl step) = inl (prepared_on files found c step)
       sent_on c (inr with) = inr (record {
@@ -143,9 +146,7 @@ module _ {D : Type 0} (state : D → DiskState) (place : Place) (d0 d2 : DiskSta
         between = with.between;
         ended = with.ended;
         staging_them = with.staging_them;
-        others = λ m other at.
-            with.others m (λ these. other (these_as Own place.is_own in_own outbound own files own_in m these))
-            (⊎_elim (λ on. inl (on_disk_still m (λ o. other (inl o)) on.0, on.1)) (λ ended. inr ended) at);
+        others = λ m other at. with.others m (λ these. other (these_as Own place.is_own in_own outbound own files own_in m these)) (on_disk_then m (λ o. other (inl o)) at);
         either = ⊎_elim (λ none. inl ((of.represented base c).0 none.0, none.1)) (λ all. inr ((of.represented (all_scanned base) c).0 all.0, all.1, all.2)) with.either;
       })
 
@@ -158,8 +159,8 @@ module _ {D : Type 0} (state : D → DiskState) (place : Place) (d0 d2 : DiskSta
       put_lasts : (c : Files) → d2.may_leave c → On_way c
       put_lasts c left = sent_on c (left_now s1.disk s2.disk Sends sends.crash c (quiet.no_more c left))
 
-      put_sent : (r : Result (Unit {0}) ScanError) → OnOk r (AreSentOut is_true Own outbound own (s1.represented (all_scanned base)) base.cursor found files s1.disk.seen s2.disk)
-          → OnOk r (AreSentOut is_true place.is_own outbound own Comes base.cursor found files s1.disk.seen d2)
+      put_sent : (r : Result (Unit {0}) ScanError) → OnOk r (AreSentOut is_true Own outbound own (IsOnDisk s1.disk) (s1.represented (all_scanned base)) base.cursor found files s1.disk.seen s2.disk)
+          → OnOk r (AreSentOut is_true place.is_own outbound own (IsOnDisk d0) Comes base.cursor found files s1.disk.seen d2)
       put_sent (Ok done) sent = record {
         all = all_left_as Own place.is_own in_own outbound own is_true s1.disk.seen found own_in sent.all;
         between = sent.between;
@@ -172,6 +173,10 @@ module _ {D : Type 0} (state : D → DiskState) (place : Place) (d0 d2 : DiskSta
         on_disk = λ c left. (of.represented (all_scanned base) c).0 (sent.on_disk c (quiet.no_more c left));
         others = λ m other. quiet.seen m ∙ sent.others m (λ these. other (these_as Own place.is_own in_own outbound own files own_in m these));
         bytes = sent.bytes;
+        settled = λ k z lt. let on = sent.settled k z lt in (quiet.named _ (λ h. h) on.0, quiet.flushed _ (λ h. h) on.1);
+        still = λ m other at.
+            let on = sent.still m (λ these. other (these_as Own place.is_own in_own outbound own files own_in m these)) (on_disk_then m (λ o. other (inl o)) at) in
+            (quiet.named m (λ h. h) on.0, quiet.flushed m (λ h. h) on.1);
       }
       put_sent (Err why) sent = tt
 

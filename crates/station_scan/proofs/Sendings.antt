@@ -10,11 +10,11 @@ use Rattle.{base_store.proofs.Runs.same_twice, echo_toss.specs.{Counts.link_set,
 use Rattle.{station.specs.Beneath.{HoldsAsBefore, IsUsedAt}, station_scan.specs.declared.{scan_error.ScanError.TheVariants.Staying, sending.Sending.Sending}}
 use Rattle.station_scan.specs.Passing.{AreFor, AreGrowing, CanSend, HasPassed, IsGrowingTo, IsStagingTo, all_sent, is_made, links_to}
 use Rattle.station_scan.specs.Publishing.{AreGone, ArePublished, HasPublishCause, IsFreeIn, IsGoingAt, IsPublishedAt, IsTriedWith, KeepsStoreBut, MayPublish, PublishesOn, StopsPublishing, ended_before, no_files}
-use Rattle.station_scan.specs.Sending.{HasBytes, IsAtItsPath, IsFreeAt, IsOfPacket, IsStagingGone, IsStagingOfPacket, IsWhole, IsWholeAlone, for_address}
+use Rattle.station_scan.specs.Sending.{HasBytes, IsAtItsPath, IsFreeAt, IsOfPacket, IsStagingGone, IsStagingOfPacket, IsStagingOn, IsWhole, IsWholeAlone, for_address}
 use Rattle.station_scan.specs.{Sends.{AreSentOn, IsLeftAs, IsOfThese, SendsThese, WasTriedFor, WritesStaging}, Moved.{IsMoved, SendsFrom}, Fitting.AreTaken}
 use Rattle.station_scan.specs.{Left.IsOfNameOff, Scanning.packets_in, Stops.{IsOfBase, IsOfPlacing, most, scan_done}}
 use Rattle.station_scan.specs.declared.{publish_error.PublishError.{PublishError, TheVariants.Packets}, counting.LinkPacket.LinkPacket}
-use Rattle.station_scan.proofs.Files.{are_filled, are_whole, at_its_path, content_of, ended_has, file_to, files_are, files_bytes, files_to, growing_free, have_none, none_left, none_staging, of_packet, same_files, staging_files, staging_packet}
+use Rattle.station_scan.proofs.Files.{are_filled, are_whole, at_its_path, content_of, ended_has, file_to, files_are, files_bytes, files_to, growing_free, have_none, none_left, none_staging, of_packet, same_files, staging_files, staging_on, staging_packet}
 use Rattle.station_scan.proofs.Published.{bytes_as, commits_used, filled_as, holds_still, keeps_only, keeps_then, keeps_wider, path_as, store_wider, whole_as}
 use Rattle.station_scan.proofs.{Lists.kept_passes, Routes.{address_for, path_off, staging_at, staging_named}, Staged.tried_after}
 use Rattle.station_scan.proofs.Stops.{sent_why, tells_alone, tells_published}
@@ -154,6 +154,7 @@ module _ {D : Type 0} (state : D → DiskState) (Own : List ℕ → Type 0) (to 
             packets = λ honest b kept. nothing (IsAtItsPath out s2.disk);
             gone = λ honest b kept. nothing (IsStagingGone out own s2.disk.seen);
             bytes = λ honest b kept. nothing HasBytes;
+            settled = λ honest b kept. nothing (IsStagingOn out own s2.disk);
           }) commits);
           free = on_ok_done (All (IsFreeAt out s0.disk.seen) files) done (on_ok_any done (nothing (IsFreeAt out s0.disk.seen)));
           crash = crash_then s2 (weaker_run s1.disk s2.disk (LeavesEither s1 base next) (SendsThese s1 out own files base next) (may.any_moment honest2 base next committed kept)
@@ -203,6 +204,7 @@ module _ {D : Type 0} (state : D → DiskState) (Own : List ℕ → Type 0) (to 
           packets = λ honest b was. as_files (λ l. All (IsAtItsPath out s2.disk) l) (at_its_path to can.routes base packets for s2.disk at_path);
           gone = λ honest b was. as_files (λ l. All (IsStagingGone out own s2.disk.seen) l) (none_staging to can.routes base packets for s2.disk at_path);
           bytes = λ honest b was. as_files (λ l. All HasBytes l) (files_bytes to can.routes base packets for (bytes_as (ended_before s1 next) content packets has (published.bytes honest2 next kept)));
+          settled = λ honest b was. as_files (λ l. All (IsStagingOn out own s2.disk) l) (staging_on to can.routes base packets for s2.disk (published.settled honest2));
         }
 
     moment : (c : Files) → PublishesOn s1 (ended_before s1 next) packets to.trial.now base next c → SendsThese s1 out own files base next c

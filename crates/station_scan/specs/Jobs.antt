@@ -5,7 +5,7 @@ use Rattle.disk_atomic.specs.{Outgoing.{ArePlaced, IsFree, IsStaged, staged_in},
 use Rattle.disk_atomic.specs.{Publishing.HasPlacingCause, declared.{listing.StagedPacket.StagedPacket, outgoing.Outgoing.Outgoing}}
 use Rattle.{disk_atomic.specs.declared.placing_error.PlacingError.{PlacingError, TheVariants.Taken}, echo_toss.specs.Exports.OutgoingMessage as Sent}
 use Rattle.station_scan.specs.{Left.{AreFreeLeft, EndsLeft}, Passing.{AreGrowing, IsAppending}}
-use Rattle.station_scan.specs.Publishing.{AreGone, AreStaged, HasStageCause, IsTriedWith, IsWritten, NoneStays, ended_in}
+use Rattle.station_scan.specs.Publishing.{AreGone, AreStaged, HasStageCause, IsStagingOnDisk, IsTriedWith, IsWritten, NoneStays, ended_in}
 use Rattle.station_scan.specs.declared.{publish_error.PublishError.PublishError, sending.Sending.Sending, writing.Batch.Batch}
 
 -- The listed leftover packets were finished, by the cursor. The numbers are how often the disk failed before and after, here and below.
@@ -49,6 +49,7 @@ pub record CanName (outbound : List ℕ) (packets : List Outgoing) (disk : DiskS
 -- The packets got their paths, or a path is in use.
 pub record HasNamed (packets : List Outgoing) (old new : DiskState) (before now : ℕ) (result : Result Bool DiskError) : Type 0 where
   pub named : Honestly new (IfOk result (λ all. all ≡ true → All (HasItsPath (staged_in old.seen) new) packets))
+  pub settled : Honestly new (IfOk result (λ all. all ≡ true → All (IsStagingOnDisk new) packets))
   pub taken : Honestly new (IfOk result (λ all. all ≡ false → All (IsFree old) packets → ⊥))
   pub any_moment : Honestly new (LeavesOnly old new (OneStepOn (NamesEach (staged_in old.seen) packets) old))
   pub cause : HasCause before now result

@@ -136,11 +136,16 @@ pub record HasStageCause {T : Type 0} (before now : ℕ) (result : Result T Publ
   pub reading : (cause : StoreError) → IsErrOf result (Reading cause) → ⊥
   pub base : (cause : StoreError) → IsErrOf result (OfBase cause) → ⊥
 
--- each packet is at its path on the disk, and the store's base is committed
+-- What its staging path leads to is on the disk.
+abbrev pub IsStagingOnDisk : DiskState → Outgoing → Type 0
+IsStagingOnDisk disk p = IsOnDisk disk p.staging.now
+
+-- each packet is at its path on the disk, without a staging file after any crash, and the store's base is committed
 pub record ArePublished (content : Base → Outgoing → List ℕ) (packets : List Outgoing) (old new : StoreState) : Type 0 where
   pub committed : Commits old new
   pub named : Honestly new.disk ((base : Base) → old.keeps base → All (HasItsPath (content base) new.disk) packets)
   pub bytes : Honestly new.disk ((base : Base) → old.keeps base → All (SendsBytes (content base)) packets)
+  pub settled : Honestly new.disk (All (IsStagingOnDisk new.disk) packets)
 
 -- It is the same store. Except at these paths, the files seen and the files on the disk are unchanged.
 pub record KeepsStoreBut (paths : List ℕ → Type 0) (old new : StoreState) : Type 0 where

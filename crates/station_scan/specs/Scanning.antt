@@ -8,7 +8,7 @@ use Rattle.{base_store.specs.declared.store_error.StoreError.TheVariants.{Damage
 use Rattle.{cmd_store.specs.declared.command_error.CommandError.{CommandError, TheVariants.Store}, echo_toss.specs.PacketsIn.state_in}
 use Rattle.station.specs.{Place.{Place, RepresentsOrWasLeft}, Running.{IsNotRun, IsStopped}}
 use Rattle.station_scan.specs.Left.{AreAllLeft, AreFreeLeft, IsEnded, IsEndedAt, IsLeftOf, IsOfName}
-use Rattle.station_scan.specs.{Sending.{HasBytes, IsAtItsPath, IsStagingOfPacket, IsFreeAt, IsStagingGone, IsWholeAlone}, Fitting.AreTaken, Publishing.IsOnDisk}
+use Rattle.station_scan.specs.{Sending.{HasBytes, IsAtItsPath, IsStagingOfPacket, IsFreeAt, IsStagingGone, IsStagingOn, IsWholeAlone}, Fitting.AreTaken, Publishing.IsOnDisk}
 use Rattle.station_scan.specs.{Sends.{IsLeftAs, IsOfThese, WasTriedFor}, Stops.{IsOfPlacing, as_scan, most}, declared.scan_error.ScanError.ScanError}
 use Rattle.station_scan.specs.declared.scan_error.ScanError.TheVariants.{Command, Staying}
 
@@ -38,7 +38,7 @@ pub record CommitsScan (is_true : Type 0) (Own : List ℕ → Type 0) (outbound 
   pub either : (Stays after × All (IsFreeAt outbound after) files) ⊎ (Comes after × All (IsWholeAlone outbound own after) files × All HasBytes files)
 
 -- The leftover packets were finished. Then the packets of this scan and the new base were put on the disk.
-pub record AreSentOut (is_true : Type 0) (Own : List ℕ → Type 0) (outbound own : List ℕ) (Comes : Files → Type 0) (cursor : ℕ) (found : List Left) (files : List PacketFile) (seen : Files) (new : DiskState) : Type 0 where
+pub record AreSentOut (is_true : Type 0) (Own : List ℕ → Type 0) (outbound own : List ℕ) (OnDisk : List ℕ → Type 0) (Comes : Files → Type 0) (cursor : ℕ) (found : List Left) (files : List PacketFile) (seen : Files) (new : DiskState) : Type 0 where
   -- If the list was true, all leftover packets are among them.
   pub all : AreAllLeft is_true Own outbound own seen found
   -- The files once the leftover packets were finished.
@@ -55,6 +55,9 @@ pub record AreSentOut (is_true : Type 0) (Own : List ℕ → Type 0) (outbound o
   pub on_disk : (c : Files) → new.may_leave c → Comes c
   pub others : DifferAt (IsOfThese Own outbound own files) between new.seen
   pub bytes : All HasBytes files
+  -- Their staging paths are on the disk, and so is all else that was or that ended with the leftover packets.
+  pub settled : All (IsStagingOn outbound own new) files
+  pub still : (m : List ℕ) → (IsOfThese Own outbound own files m → ⊥) → (OnDisk m × (IsOfLeft found m → ⊥)) ⊎ IsEndedAt cursor found between m → IsOnDisk new m
 
 -- A file has the path of a leftover packet. Or, once these are finished, a file has the path of a packet of this scan.
 abbrev pub IsTaken : (List ℕ → Type 0) → List ℕ → List ℕ → ℕ → List Left → List PacketFile → Files → Type 0
@@ -66,7 +69,7 @@ IsTaken Own outbound own cursor found files seen =
 pub record SendsOut {D : Type 0} (state : D → DiskState) (is_true failed : Type 0) (Own : List ℕ → Type 0) (outbound own : List ℕ) (Stays Comes : Files → Type 0) (cursor : ℕ) (files : List PacketFile) (old new : DiskState) (result : Result (Unit {0}) ScanError) : Type 0 where
   pub found : List Left
   pub each : All (IsLeftOf is_true Own outbound own) found
-  pub sent : OnOk result (AreSentOut is_true Own outbound own Comes cursor found files old.seen new)
+  pub sent : OnOk result (AreSentOut is_true Own outbound own (IsOnDisk old) Comes cursor found files old.seen new)
   pub crash : LeavesOnly old new (λ c. OneStepOn (PreparesScan outbound own Stays cursor found files) old c ⊎ CommitsScan is_true Own outbound own (IsOnDisk old) Stays Comes cursor found files old.seen c)
   pub why : IfErr result (IsOfPlacing failed (IsTaken Own outbound own cursor found files old.seen) (most < cursor))
   pub left : IfErr result (IsLeftAs outbound own Stays Comes (IsOfLeft found) files old.seen new.seen)
@@ -142,7 +145,7 @@ pub record IsPutIn {D : Type 0} (state : D → DiskState) (place : Place) (outbo
   pub elsewhere : (m : List ℕ) → (place.is_own m → ⊥) → opened m ≡ old.seen m
   pub found : List Left
   pub each : All (IsLeftOf (IsTrue opened) place.is_own outbound own) found
-  pub sent : OnOk result (AreSentOut (IsTrue opened) place.is_own outbound own (place.represents (all_scanned base)) base.cursor found files opened new)
+  pub sent : OnOk result (AreSentOut (IsTrue opened) place.is_own outbound own (IsOnDisk old) (place.represents (all_scanned base)) base.cursor found files opened new)
   pub crash : LeavesOnly old new (MayLeave (IsTrue opened) place outbound own old base found files opened)
   -- However it ended, the base that was read is on the disk, or the new one.
   pub lasts : (c : Files) → new.may_leave c → IsOnItsWay (IsTrue opened) place outbound own old base found files opened c

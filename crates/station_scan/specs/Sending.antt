@@ -3,7 +3,7 @@ use Rattle.{std.specs.Prelude.{◌≡◌, ◌≢◌, ◌⊎◌, ◌<◌, ◌^◌
 use Rattle.{disk_io.specs.Disk.{DiskState, Files}, echo_addr.specs.declared.address.Address.Address, echo_links.specs.Links.LinkFile}
 use Rattle.{echo_toss.specs.Counts.link_set, cmd_store.specs.PacketLines.packet_name, model_steps.specs.PacketFiles.PacketFile}
 use Rattle.disk_atomic.specs.{Changes.HasOnDisk, declared.outgoing.Outgoing.Outgoing, ListStaged.IsNameByte, StagingPaths.{dotted, staging_path}}
-use Rattle.station_scan.specs.declared.sending.{Route.Route, Sending.Sending, TwoPaths.TwoPaths}
+use Rattle.station_scan.specs.{Publishing.IsOnDisk, declared.sending.{Route.Route, Sending.Sending, TwoPaths.TwoPaths}}
 
 -- The path of a packet of this name in the folder, and its staging path.
 abbrev pub two_paths : List ℕ → List ℕ → List ℕ → TwoPaths
@@ -57,6 +57,10 @@ for_address content packet = content packet.to
 -- The packet is on the disk, at its path, with just its bytes.
 abbrev pub IsAtItsPath : List ℕ → DiskState → PacketFile → Type 0
 IsAtItsPath folder disk sent = HasOnDisk disk (folder ++ sent.name) sent.bytes
+
+-- What its staging path leads to is on the disk.
+abbrev pub IsStagingOn : List ℕ → List ℕ → DiskState → PacketFile → Type 0
+IsStagingOn folder own disk sent = IsOnDisk disk (staging_path (folder ++ sent.name) own)
 
 -- Its content is bytes.
 abbrev pub HasBytes : PacketFile → Type 0

@@ -2,7 +2,7 @@
 use Rattle.{std.specs.Prelude.{◌≡◌, ◌⊎◌, ℕ, List, length, All, None}, base_file.specs.Base.Base, disk_io.specs.Disk.{DiskState, Files, Honestly}}
 use Rattle.{disk_io.specs.Runs.OneStepOn, disk_atomic.specs.{Changes.DifferAt, Trying.WasTried, StagingPaths.staging_path}}
 use Rattle.{model_steps.specs.PacketFiles.PacketFile, base_store.specs.Store.{Commits, StoreState}}
-use Rattle.station_scan.specs.{Sending.{HasBytes, IsAtItsPath, IsStagingOfPacket, IsFreeAt, IsStagingGone, IsOfPacket, IsWhole, IsWholeAlone}, Left.IsOfNameOff}
+use Rattle.station_scan.specs.{Sending.{HasBytes, IsAtItsPath, IsStagingOfPacket, IsFreeAt, IsStagingGone, IsStagingOn, IsOfPacket, IsWhole, IsWholeAlone}, Left.IsOfNameOff}
 use Rattle.station_scan.specs.{Publishing.IsOnDisk, Stops.TellsLeft, declared.scan_error.ScanError.ScanError}
 
 -- one of these paths, or one of the two paths of a packet
@@ -31,6 +31,7 @@ pub record AreSentOn (outbound own : List ℕ) (files : Base → List PacketFile
   pub packets : Honestly new.disk ((base : Base) → old.keeps base → All (IsAtItsPath outbound new.disk) (files base))
   pub gone : Honestly new.disk ((base : Base) → old.keeps base → All (IsStagingGone outbound own new.disk.seen) (files base))
   pub bytes : Honestly new.disk ((base : Base) → old.keeps base → All HasBytes (files base))
+  pub settled : Honestly new.disk ((base : Base) → old.keeps base → All (IsStagingOn outbound own new.disk) (files base))
 
 -- What an error says of these packets, from the files seen before and after. Files at other paths may be left by earlier scans.
 abbrev pub IsLeftAs : List ℕ → List ℕ → (Files → Type 0) → (Files → Type 0) → (List ℕ → Type 0) → List PacketFile → Files → Files → ScanError → Type 0

@@ -2,10 +2,11 @@
 use crate::ending::stage_packets;
 use crate::finishing::finish_left;
 use crate::growing::append_group;
+use crate::naming::name_settled;
 use crate::publish_error::PublishError;
 use crate::sending::Sending;
 use crate::writing::Batch;
-use disk_atomic::{Outgoing, PlacingError, StagedPacket, drop_staging, name_packets};
+use disk_atomic::{Outgoing, PlacingError, StagedPacket, drop_staging};
 use disk_io::{Disk, DiskError};
 use echo_toss::Group;
 use station::{DiskJob, OwnPaths};
@@ -150,6 +151,6 @@ impl<D: Disk> DiskJob<D> for NamePackets<'_> {
     ghost has_run = { λ job d e f g r. HasNamed job.packets.now d e f g r };
 
     fn run(&self, alloc: Global, disk: &mut D) -> Result<bool, DiskError> {
-        name_packets(alloc, disk, self.outbound, self.packets)
+        name_settled(alloc, disk, self.outbound, self.packets)
     }
 }

@@ -11,8 +11,8 @@
 //! paths for each link before the pass. `outgoing` makes the packets and sends them out. For that `passing` goes over the
 //! messages once. `counting` keeps one list of the packets for the links. `fitting` judges the paths of packets that begin,
 //! and `growing` writes each group into staging files. `stopping` removes these files where the pass stops. `ending` and
-//! `publishing` end the packets and commit. They use `pieces` (the next bytes of a packet), `writing` and `staging`
-//! (staging files on the disk). `finding` and `finishing` end what earlier scans left. `jobs` are the steps for which a
+//! `publishing` end the packets and commit, and `naming` gives them their paths. They use `pieces` (the next bytes of a
+//! packet), `writing` and `staging` (staging files on the disk). `finding` and `finishing` end what earlier scans left. `jobs` are the steps for which a
 //! store lends its disk. `reporting` prints the lines of a scan that stops, and `reported` reports progress.
 //! `publish_error` and `scan_error` are the errors.
 #![tactic(auto)]
@@ -24,6 +24,7 @@ mod finishing;
 mod fitting;
 mod growing;
 mod jobs;
+mod naming;
 mod outgoing;
 mod passing;
 mod pieces;

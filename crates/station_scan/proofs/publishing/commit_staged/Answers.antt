@@ -10,7 +10,7 @@ returns-clause-published g c =
     let s2 = g.P.Kept.Store.state c.with_disk-named.new.kept in
     let used = c.with_disk-named.ensures.used in
     published_if c.args.packets.now s0 s1 s2 c.with_disk-named.result c.named_done.result c.named_done.ensures (λ honest. c.commit.ensures.either.others.honest (used.changes.honest honest))
-    (same_staged c.args.packets.now s0 c.requires.apart s1 c.commit.ensures.either c.requires.staged) c.with_disk-named.ensures.done.named (commits_still s0 s1 s2 c.in_ok-commit.ensures.committed used.holds used.changes.honest) c.requires.staged.bytes
+    (same_staged c.args.packets.now s0 c.requires.apart s1 c.commit.ensures.either c.requires.staged) c.with_disk-named.ensures.done.named c.with_disk-named.ensures.done.settled (commits_still s0 s1 s2 c.in_ok-commit.ensures.committed used.holds used.changes.honest) c.requires.staged.bytes
 
 pub returns-clause-any_moment : goal.returns-clause-any_moment
 returns-clause-any_moment g c = λ honest first next was is.
