@@ -41,9 +41,12 @@ module _ (Own : List ℕ → Type 0) (outbound own : List ℕ) (Comes : Files �
     | inl (l, has, is) ↦ inr (l, has, inl is)
     | inr none_staging ↦ elim (one_of (λ (l : Left). l.path.now) m found) [
       | inl (l, has, is) ↦ inr (left-ended m (l, has, inr is))
-      | inr none_path ↦ inl (on, λ of.
-          ⊎_elim (λ (e : m ≡ of.0.staging.now). All-contains (λ (l : Left). m ≢ l.staging.now) found of.0 none_staging of.1 e)
-          (λ (e : m ≡ of.0.path.now). All-contains (λ (l : Left). m ≢ l.path.now) found of.0 none_path of.1 e) of.2)
+      | inr none_path ↦ inl (
+        on,
+        λ of.
+            ⊎_elim (λ (e : m ≡ of.0.staging.now). All-contains (λ (l : Left). m ≢ l.staging.now) found of.0 none_staging of.1 e)
+            (λ (e : m ≡ of.0.path.now). All-contains (λ (l : Left). m ≢ l.path.now) found of.0 none_path of.1 e) of.2,
+      )
     ]
   ]
 
