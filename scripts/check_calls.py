@@ -43,7 +43,6 @@ READS = {
     "cmd_notes/notes": "the lists of files that a note is about",
     "cmd_notes/states": "what is found at a path, for a note",
     "cmd_station/posting_mail": "whether there is a base with an answered message",
-    "cmd_station/running": "the bound of RealDisk, no call",
     "cmd_station/scanning": "the bound of RealDisk, no call",
 }
 # The functions that get the disk of the system, with their crates.

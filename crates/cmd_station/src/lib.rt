@@ -3,15 +3,13 @@
 //! be safe and to end, and no more: the crates `station` and `station_scan` promise what a command reads and writes on any
 //! disk. Begin with `commands`, which picks the command, then `place`, the locks and the base of a station.
 //!
-//! `found` is the state of a base folder before it is opened, and `opened` is work on the open folder. `running` runs a
-//! command on a station. `posting` has the words of `post`, `posting_jam` posts the messages of a JAM base, and `posting_mail` a
-//! mail. `changing`, `tossing` and `scanning` are the commands by their words. `unplaced` reports the path at which a scan
-//! failed.
+//! `opened` is work on an open base folder. `running` runs a command on a station. `posting` has the words of `post`,
+//! `posting_jam` posts the messages of a JAM base, and `posting_mail` a mail. `changing`, `tossing` and `scanning` are the
+//! commands by their words. `unplaced` reports the path at which a scan failed.
 #![tactic(auto)]
 
 mod changing;
 mod commands;
-mod found;
 mod opened;
 mod place;
 mod posting;

@@ -1,9 +1,8 @@
 //! A station before it is opened: its locks, and the state of its base.
 ghost use Rattle.{std.specs.Prelude.OnOk, station.specs.Opening.AreFree};
 
-use crate::found::{FolderState, found_in};
-use cmd_base::{BaseFiles, is_folder};
-use cmd_input::{BaseLock, LinkLock};
+use cmd_base::{BaseFiles, break_hard_links, drawn_key, is_folder, is_strange};
+use cmd_input::{BaseLock, LinkLock, folder_path};
 use cmd_status::{Fault, FileLock};
 use cmd_words::Place;
 use disk_io::Disk;
@@ -78,7 +77,7 @@ pub fn find_base<'a, L: FileLock, K: FileLock>(
 // The state of the base with this path.
 fn found_at<'a>(rt: &'a HostRuntime, base: &'a str) -> Result<FoundBase<'a>, Fault<'a>> {
     let (path, folder) = if is_folder(rt, base) {
-        let FolderState { path, found } = found_in(rt, base)?;
+        let (path, found) = probed(rt, base)?;
         (path, Some(found))
     } else {
         (followed(rt, base)?, None)
@@ -88,6 +87,16 @@ fn found_at<'a>(rt: &'a HostRuntime, base: &'a str) -> Result<FoundBase<'a>, Fau
         folder,
         files: BaseFiles::new(rt),
     })
+}
+
+// The path before the names of the files of this base folder, its state, and a key for its digests. Its files have no
+// second path then.
+fn probed<'a>(rt: &HostRuntime, base: &'a str) -> Result<(String, FolderProbe), Fault<'a>> {
+    let strange = is_strange(rt, base)?;
+    let path = folder_path(rt, base)?;
+    break_hard_links(rt, base, path.as_str(), strange)?;
+    let key = drawn_key(rt)?;
+    Ok((path, FolderProbe { strange, key }))
 }
 
 // The path of a base file, with symbolic links followed. If they lead to no file, that is a fault when the base is

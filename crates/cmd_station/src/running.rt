@@ -17,7 +17,6 @@ use station::{BeforeCommand, Locks, Nothing, OpenStation, Unread, run_command};
 use station_bases::{FileStation, FolderPlace, FolderProbe, FolderStation};
 use std::collections::hash_map::RandomState;
 use std::marker::PhantomData;
-use std::rt::Files;
 
 /// What the program knows before a command: how packets are tossed, if they are, and the progress line for the reading of
 /// a base file. `unread` is the fault of an earlier input.
@@ -60,67 +59,18 @@ fn run_on_file<'a, C: StoreCommand<'a>, L: FileLock, K: FileLock, W: Sink>(
     requires { AreFree (L.held locks.old.links) (K.held locks.old.base) }
     ensures passed { OnOk result (before.entry.unread ≡ None) }
 {
-    let done = match file_station(at, before.progress) {
-        Ok(station) => run_on_files(at, at.files, locks, station, before.unread, command, out),
-        Err(fault) => Err(CommandError::Met(fault)),
+    let station = match file_station(at, before.progress) {
+        Ok(station) => station,
+        Err(fault) => return Err(CommandError::Met(fault)),
     };
+    let disk = RealDisk::new(at.files, Unknown);
+    let mut unread = Unread {
+        first: Nothing,
+        fault: before.unread,
+    };
+    let done = run_over(at.rt, disk, locks, station, &mut unread, command, out);
     at.files.tidy();
     done
-}
-
-// The same over these files.
-fn run_on_files<'a, F: Files + Drop + 'a, C: StoreCommand<'a>, L: FileLock, K: FileLock, W: Sink>(
-    at: Station<'a>,
-    files: F,
-    locks: &mut Locks<L, K>,
-    station: FileStation<'a, RandomState, Messages<'a, 'a>>,
-    unread: Option<Fault<'a>>,
-    command: &mut C,
-    out: &mut W,
-) -> Result<C::Answer, CommandError<'a>>
-    requires { AreFree (L.held locks.old.links) (K.held locks.old.base) }
-    ensures passed { OnOk result (unread.entry ≡ None) }
-{
-    let disk = RealDisk::new(files, Unknown);
-    run_unprepared(at, disk, locks, station, unread, command, out)
-}
-
-// Runs a command on a station that needs no work before it.
-fn run_unprepared<
-    'a,
-    D: Disk + Drop,
-    P: OpenStation<'a, D>,
-    C: StoreCommand<'a>,
-    L: FileLock,
-    K: FileLock,
-    W: Sink,
->(
-    at: Station<'a>,
-    disk: D,
-    locks: &mut Locks<L, K>,
-    station: P,
-    unread: Option<Fault<'a>>,
-    command: &mut C,
-    out: &mut W,
-) -> Result<C::Answer, CommandError<'a>>
-    requires free { AreFree (L.held locks.old.links) (K.held locks.old.base) }
-    requires can { Honestly (D.state disk) (P.can_open station (D.state disk)) }
-    ensures passed { OnOk result (unread.entry ≡ None) }
-{
-    let mut before = Unread {
-        first: Nothing,
-        fault: unread,
-    };
-    let ended = run_command(
-        at.rt.alloc(),
-        disk,
-        locks,
-        station,
-        &mut before,
-        command,
-        out,
-    );
-    ended.done
 }
 
 // The same if the base is a folder.
