@@ -136,6 +136,23 @@ fn run_on_folder<'a, C: StoreCommand<'a>, L: FileLock, K: FileLock, W: Sink>(
     ensures passed { OnOk result (before.entry.unread ≡ None) }
 {
     let disk = RealDisk::new(at.rt, Unknown);
+    run_on_disk(at, disk, locks, found, before, command, out)
+}
+
+// The same over a disk of which nothing is known.
+fn run_on_disk<'a, D: Disk + Drop, C: StoreCommand<'a>, L: FileLock, K: FileLock, W: Sink>(
+    at: Station<'a>,
+    disk: D,
+    locks: &mut Locks<L, K>,
+    found: FolderProbe,
+    before: Before<'a>,
+    command: &mut C,
+    out: &mut W,
+) -> Result<C::Answer, CommandError<'a>>
+    requires free { AreFree (L.held locks.old.links) (K.held locks.old.base) }
+    requires unknown { Honestly (D.state disk) ⊥ }
+    ensures passed { OnOk result (before.entry.unread ≡ None) }
+{
     let mut opened = Unread {
         first: Opened::new(at.rt, at.place.base, before.toss, None),
         fault: before.unread,
