@@ -1,7 +1,7 @@
-ghost use Rattle.std.specs.{Prelude.{◌≡◌, ◌==◌, ◌||◌, length, Some, None, MatchResult}, List.list_any};
+ghost use Rattle.std.specs.{Prelude.{◌≡◌, Some, None, MatchResult}, List.list_any};
 ghost use Rattle.echo_text.specs.Ids.{is_zero};
 ghost use Rattle.echo_links.specs.Links.{has_area, upper};
-ghost use Rattle.model_steps.specs.{Posting.holds_zero, Posting.is_too_long, ReplyIds.is_reply_id};
+ghost use Rattle.model_steps.specs.Posting.{holds_zero};
 ghost use Rattle.echo_toss.specs.Refusals.{draft_refusal};
 
 use echo_links::LinkFile;
@@ -24,13 +24,17 @@ pub(crate) fn judge(
     if holds_zero(draft) {
         return Err(PostFault::ByteZero);
     }
-    if is_too_long(draft) {
+    if draft.to_name.len() > MAX_NAME
+        || draft.from_name.len() > MAX_NAME
+        || draft.subject.len() > MAX_SUBJECT
+    {
         return Err(PostFault::FieldTooLong);
     }
     if !is_stamp(stamp) {
         return Err(PostFault::BadStamp);
     }
-    if !is_reply(draft.reply.as_slice()) {
+    let reply = draft.reply.as_slice();
+    if !(reply.is_empty() || is_reply_id(reply)) {
         return Err(PostFault::BadReply);
     }
     Ok(())
@@ -65,18 +69,4 @@ fn has_zero(bytes: &[u8]) -> bool
     ensures { result ≡ list_any is_zero bytes.now }
 {
     bytes.iter().any(|b| *b == 0)
-}
-
-fn is_too_long(draft: &Draft) -> bool
-    ensures { result ≡ is_too_long draft.now }
-{
-    draft.to_name.len() > MAX_NAME
-        || draft.from_name.len() > MAX_NAME
-        || draft.subject.len() > MAX_SUBJECT
-}
-
-fn is_reply(reply: &[u8]) -> bool
-    ensures { result ≡ ((length reply.now == 0) || is_reply_id reply.now) }
-{
-    reply.is_empty() || is_reply_id(reply)
 }
