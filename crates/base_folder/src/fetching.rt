@@ -1,4 +1,5 @@
-ghost use Rattle.{std.specs.Prelude.{◌≡◌, ◌≤◌, ◌<◌, slice_get, IfErr, OnOk}, base_file.specs.Base.Base, base_folder.specs.Source.{LooksAt, ReadsLegibly}};
+ghost use Rattle.std.specs.Prelude.{◌≡◌, ◌≤◌, ◌<◌, slice_get, IfErr, OnOk};
+ghost use Rattle.{base_file.specs.Base.Base, base_folder.specs.Source.{LooksAt, ReadsLegibly}};
 ghost use Rattle.base_folder.specs.Fetching.{IsUnread};
 
 use crate::source::MessageSource;

@@ -1,5 +1,6 @@
 //! A base folder filled with messages that are read one by one.
-ghost use Rattle.{std.specs.Prelude.{◌≡◌, ◌≢◌, ◌≤◌, ◌<◌, ◌+◌, ◌-◌, ℕ, IfErr, IsErrOf, OnOk, Some, slice_get}, base_file.specs.Base.Base, disk_io.specs.Disk.Honestly};
+ghost use Rattle.std.specs.Prelude.{◌≡◌, ◌≢◌, ◌≤◌, ◌<◌, ◌+◌, ◌-◌, ℕ, IfErr, IsErrOf, OnOk, Some, slice_get};
+ghost use Rattle.{base_file.specs.Base.Base, disk_io.specs.Disk.Honestly};
 ghost use Rattle.{base_log.specs.{Moments.KeepsOutside, Opening.AreAlone}, echo_filed.specs.Filed.Filed as TheMessage, base_folder_store.specs.Added.HasRoomFor};
 ghost use Rattle.base_folder_store.specs.{Answers.HasReadCause, Held.{HoldsBase, RepresentsBase}, Opened.{committed_by, held_by, path_of}};
 ghost use Rattle.{base_folder_store.specs.{Owned.{IsUnclaimed, with_mark}, State.IsUsable}, base_folder.specs.Ours.SameKey};

@@ -1,5 +1,6 @@
 //! What holds of the definitions. Each law is the contract of a function that does nothing.
-ghost use Rattle.{std.specs.Prelude.{ℕ, List, [], false}, echo_addr.specs.declared.address.Address.Address, disk_io.specs.Disk.Files};
+ghost use Rattle.std.specs.Prelude.{ℕ, List, [], false};
+ghost use Rattle.{echo_addr.specs.declared.address.Address.Address, disk_io.specs.Disk.Files};
 ghost use Rattle.{base_folder_store.specs.Held.RepresentsBase, base_folder.specs.{Ours.IsOfOther, Unopened.HaveRoom, Wrong.{HasNoFiles, IsSound}}};
 
 /// A folder without files is a base folder with no message and no owner.

@@ -1,5 +1,6 @@
 //! A base folder read without a change, so that no lock is needed.
-ghost use Rattle.{std.specs.Prelude.{◌≡◌, ◌++◌, ℕ, List, length, take, true, IfErr, IfOk, IfSome, IsSome, OnOk}, disk_io.specs.{Disk.Honestly, Runs.ChangesNothing}};
+ghost use Rattle.std.specs.Prelude.{◌≡◌, ◌++◌, ℕ, List, length, take, true, IfErr, IfOk, IfSome, IsSome, OnOk};
+ghost use Rattle.disk_io.specs.{Disk.Honestly, Runs.ChangesNothing};
 ghost use Rattle.{base_log.specs.{Reading.IsLogIn, Standing.{BaseBytes, Represents, base_at}}, base_folder_store.specs.{Opened.held_by, Vouched.IsLookedAt}};
 ghost use Rattle.base_folder.specs.{Looked.{AreVouched, GoesOn, HasLogs, IsReadWhole, IsUnseen}, OpenError.HasUnreadCause, Wrong.IsSound};
 

@@ -1,5 +1,6 @@
 //! A base folder opened to be changed.
-ghost use Rattle.{std.specs.Prelude.{ℕ, List, IfErr, IfOk, OnOk}, base_file.specs.Base.Base, disk_io.specs.Disk.Honestly};
+ghost use Rattle.std.specs.Prelude.{ℕ, List, IfErr, IfOk, OnOk};
+ghost use Rattle.{base_file.specs.Base.Base, disk_io.specs.Disk.Honestly};
 ghost use Rattle.{echo_addr.specs.declared.address.Address.Address, base_log.specs.Opening.AreAlone, base_folder_store.specs.Held.{HoldsBase, RepresentsBase}};
 ghost use Rattle.{base_folder_store.specs.Opened.{IsFresh, IsOpen, held_by}, base_folder.specs.Ours.{IsLeftAlone, IsNotOurs, IsOfOther}};
 ghost use Rattle.base_folder.specs.{Unopened.{HasOpened, HaveRoom, IsOpenedFor, OpensOnly}, OpenError.{HasUnreadCause, IsWrong}, Wrong.{IsSoundBy, NeedsSound}};

@@ -1,5 +1,6 @@
 //! The owner of a base folder.
-ghost use Rattle.{std.specs.Prelude.{◌≡◌, ◌<◌, ◌⊎◌, IfErr, OnOk}, base_folder_store.specs.Owned.{IsUnclaimed, with_mark}};
+ghost use Rattle.std.specs.Prelude.{◌≡◌, ◌<◌, ◌⊎◌, IfErr, OnOk};
+ghost use Rattle.base_folder_store.specs.Owned.{IsUnclaimed, with_mark};
 ghost use Rattle.base_folder.specs.Ours.{IsOtherOwner, IsOurs, SameKey, address_of, number_of};
 
 use crate::open_error::OpenError;

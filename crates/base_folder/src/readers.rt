@@ -1,4 +1,5 @@
-ghost use Rattle.{std.specs.Prelude.{◌≡◌, ◌⊎◌, IfErr, IfOk, Some}, disk_io.specs.Disk.Honestly, base_folder_store.specs.Held.{HoldsBase, RepresentsBase}};
+ghost use Rattle.std.specs.Prelude.{◌≡◌, ◌⊎◌, IfErr, IfOk, Some};
+ghost use Rattle.{disk_io.specs.Disk.Honestly, base_folder_store.specs.Held.{HoldsBase, RepresentsBase}};
 ghost use Rattle.{base_folder_store.specs.{Opened.held_by, Vouched.IsLookedAt}, cmd_status.specs.{Ended.IsOutOfMemory, Inputs.{IsBaseFault, IsBaseGiven}}};
 ghost use Rattle.base_file.specs.Base as model;
 

@@ -1,5 +1,6 @@
 //! The messages of a base folder that is looked at, read one by one.
-ghost use Rattle.{std.specs.Prelude.{◌≡◌, ◌≤◌, ◌<◌, ◌/◌, IfErr, OnOk}, disk_io.specs.{Disk.Honestly, Runs.ChangesNothing}, base_folder_store.specs.Ahead.HasParts};
+ghost use Rattle.std.specs.Prelude.{◌≡◌, ◌≤◌, ◌<◌, ◌/◌, IfErr, OnOk};
+ghost use Rattle.{disk_io.specs.{Disk.Honestly, Runs.ChangesNothing}, base_folder_store.specs.Ahead.HasParts};
 ghost use Rattle.{base_folder_store.specs.{Opened.held_by, Vouched.{IsLookedAt, IsVouched}}, base_folder.specs.Looked.{AreVouched, IsUnvouched}};
 ghost use Rattle.base_folder.specs.OpenError.{HasUnreadCause, unread_message};
 

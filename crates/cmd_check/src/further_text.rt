@@ -1,5 +1,6 @@
 //! The lines of `check --more`: the faults that a verdict does not name, and how many areas have a yes.
-ghost use Rattle.{std.specs.{Prelude.{◌≡◌, ◌≤◌, ◌++◌, OnOk}, List.flat_map}, echo_net.specs.Faults.{IfNo, IsFirstFault}, cmd_print.specs.Pushed.Pushes};
+ghost use Rattle.std.specs.{Prelude.{◌≡◌, ◌≤◌, ◌++◌, OnOk}, List.flat_map};
+ghost use Rattle.{echo_net.specs.Faults.{IfNo, IsFirstFault}, cmd_print.specs.Pushed.Pushes};
 ghost use Rattle.cmd_check.specs.Further.{FurtherShown, also_line, areas_line};
 
 use echo_charset::written;

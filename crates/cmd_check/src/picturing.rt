@@ -1,5 +1,6 @@
 //! What `picture` answers.
-ghost use Rattle.{std.specs.Prelude.{◌≡◌, ℕ, List, None}, echo_links.specs.Links.upper, cmd_status.specs.{Devices.output_of, Inputs.AreLinkFiles}};
+ghost use Rattle.std.specs.Prelude.{◌≡◌, ℕ, List, None};
+ghost use Rattle.{echo_links.specs.Links.upper, cmd_status.specs.{Devices.output_of, Inputs.AreLinkFiles}};
 ghost use Rattle.cmd_check.specs.Picturing.{PictureAnswers, PrintsPicture};
 
 use crate::checking::check_status;

@@ -1,5 +1,6 @@
 //! What `picture --without` answers.
-ghost use Rattle.{std.specs.{Prelude.{◌≡◌, ◌++◌, IfOk, OnOk}, List.flat_map}, cmd_status.specs.{Devices.output_of, Ended.Answers}, cmd_print.specs.Pushed.Pushes};
+ghost use Rattle.std.specs.{Prelude.{◌≡◌, ◌++◌, IfOk, OnOk}, List.flat_map};
+ghost use Rattle.{cmd_status.specs.{Devices.output_of, Ended.Answers}, cmd_print.specs.Pushed.Pushes};
 ghost use Rattle.cmd_check.specs.{JudgedAreas.is_alone, PicturingParts.{IsLeftDrawn, IsPartsDrawn, PictureWithoutAnswers, filled_line, filled_lines, picture_front}};
 
 use crate::checking::check_status;

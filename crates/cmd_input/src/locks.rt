@@ -1,5 +1,6 @@
 //! Locks of files and folders, and the line that says that this run waits for one.
-ghost use Rattle.{std.specs.Prelude.{◌≡◌, ◌≤◌, None}, disk_io.specs.{Device.Failed, declared.disk_error.DiskError.TheVariants.Device}};
+ghost use Rattle.std.specs.Prelude.{◌≡◌, ◌≤◌, None};
+ghost use Rattle.disk_io.specs.{Device.Failed, declared.disk_error.DiskError.TheVariants.Device};
 
 use crate::inputs::folder_fault;
 use crate::paths::text_path;

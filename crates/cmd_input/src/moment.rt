@@ -1,4 +1,5 @@
-ghost use Rattle.{std.specs.Prelude.{◌≡◌, ℕ, Some, IfSome, MatchOption, pos}, jiff_core.specs.{Calendar.IsEpochDay, Date.epoch_day}};
+ghost use Rattle.std.specs.Prelude.{◌≡◌, ℕ, Some, IfSome, MatchOption, pos};
+ghost use Rattle.jiff_core.specs.{Calendar.IsEpochDay, Date.epoch_day};
 ghost use Rattle.cmd_input.specs.Moment.{IsMomentAt, IsShownAt};
 ghost use Rattle.model_steps.specs.declared.stamp.Stamp as model;
 

@@ -1,4 +1,5 @@
-ghost use Rattle.{std.specs.Prelude.{◌≡◌, ◌++◌, codes, decimal, OnOk}, echo_addr.specs.Address.address_text, echo_charset.specs.Words.printed_word};
+ghost use Rattle.std.specs.Prelude.{◌≡◌, ◌++◌, codes, decimal, OnOk};
+ghost use Rattle.{echo_addr.specs.Address.address_text, echo_charset.specs.Words.printed_word};
 ghost use Rattle.cmd_notes.specs.Reasons.{complaint, cost_words, expectation, faulty_packet_reason, field_name, form_complaint, form_expectation, form_reason, line_reason, long_reason, misdelivered_reason, not_seen_words, packet_complaint, packet_words, path_reason, reason_line, reason_text, state_words, word_reason};
 
 use cmd_show::{fault_number, push_number};

@@ -1,4 +1,5 @@
-ghost use Rattle.{std.specs.Prelude.{◌≡◌, ◌++◌, IfErr, IfOk, OnOk, option_copied}, base_file.specs.Base.Base, base_folder.specs.Fetching.IsUnread};
+ghost use Rattle.std.specs.Prelude.{◌≡◌, ◌++◌, IfErr, IfOk, OnOk, option_copied};
+ghost use Rattle.{base_file.specs.Base.Base, base_folder.specs.Fetching.IsUnread};
 ghost use Rattle.{model_steps.specs.Resending.resent, cmd_numbered.specs.Resending.{AreLegibleToCursor, IsMadeOf, ResendsReading, copies_at}};
 
 use base_folder::{MessageSource, fetch_message};

@@ -1,4 +1,5 @@
-ghost use Rattle.{std.specs.{Prelude.{◌≡◌, ◌++◌, ◌<◌, codes, length, OnOk, Some}, List.count_by}, echo_addr.specs.Address.address_text, cmd_print.specs.Pushed.Pushes};
+ghost use Rattle.std.specs.{Prelude.{◌≡◌, ◌++◌, ◌<◌, codes, length, OnOk, Some}, List.count_by};
+ghost use Rattle.{echo_addr.specs.Address.address_text, cmd_print.specs.Pushed.Pushes};
 ghost use Rattle.cmd_print.specs.Listed.{RestListed, crc_text, listed_entry, found_text, is_entry, keyword_word, line_number, mismatch_line, first_field, total_line};
 
 use echo_addr::{Address, Items};

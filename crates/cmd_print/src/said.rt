@@ -1,4 +1,5 @@
-ghost use Rattle.{std.specs.Prelude.{◌≡◌, ◌++◌, option_copied, OnOk}, cmd_print.specs.Said.{area_line, counts_line, echo_lines, found_line, found_lines}};
+ghost use Rattle.std.specs.Prelude.{◌≡◌, ◌++◌, option_copied, OnOk};
+ghost use Rattle.cmd_print.specs.Said.{area_line, counts_line, echo_lines, found_line, found_lines};
 
 use echo_charset::{push_escaped, written};
 use echo_text::{EchoView, KeptView};

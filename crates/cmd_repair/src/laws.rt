@@ -1,5 +1,6 @@
 //! Laws about lists of ids. Each is the contract of a function that does nothing.
-ghost use Rattle.{std.specs.Prelude.{◌≡◌, ◌≤◌, ◌↔◌, List, [], None, Option, Some, length, true, ℕ}, base_file.specs.Base.{Base, IsBase, is_known}};
+ghost use Rattle.std.specs.Prelude.{◌≡◌, ◌≤◌, ◌↔◌, List, [], None, Option, Some, length, true, ℕ};
+ghost use Rattle.base_file.specs.Base.{Base, IsBase, is_known};
 ghost use Rattle.{cmd_status.specs.declared.status.Status.Status, echo_addr.specs.declared.address.Address.Address, cmd_repair.specs.Rest.{HaveByteIds, SendsRest}};
 ghost use Rattle.{echo_filed.specs.declared.key.Key.TheVariants.ById, echo_links.specs.Links.LinkFile, echo_toss.specs.declared.counting.CountedPacket.CountedPacket};
 ghost use Rattle.{echo_text.specs.Lines.is_tag, model_run.specs.Repair.is_named, model_steps.specs.declared.stamp.Stamp.Stamp};

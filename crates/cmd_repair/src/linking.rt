@@ -1,4 +1,5 @@
-ghost use Rattle.{std.specs.Prelude.{◌≡◌, true, false, MatchResult}, echo_links.specs.Links.is_link, cmd_status.specs.declared.fault.Fault.TheVariants.NotLinked};
+ghost use Rattle.std.specs.Prelude.{◌≡◌, true, false, MatchResult};
+ghost use Rattle.{echo_links.specs.Links.is_link, cmd_status.specs.declared.fault.Fault.TheVariants.NotLinked};
 
 use cmd_status::Fault;
 use echo_addr::Address;

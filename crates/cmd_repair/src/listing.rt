@@ -1,4 +1,5 @@
-ghost use Rattle.{std.specs.{Prelude.{◌≡◌, ◌++◌, OnErr, OnOk, IfErr, codes, length, map}, List.flat_map}, base_folder.specs.{Fetching.CannotRead, Source.AreLegible}};
+ghost use Rattle.std.specs.{Prelude.{◌≡◌, ◌++◌, OnErr, OnOk, IfErr, codes, length, map}, List.flat_map};
+ghost use Rattle.base_folder.specs.{Fetching.CannotRead, Source.AreLegible};
 ghost use Rattle.{cmd_status.specs.{Devices.output_of, Ended.{AnswersInPieces, Stops}, Lines.{PassesOn, WritesFront}}, echo_charset.specs.Escaped.escaped_line};
 ghost use Rattle.{echo_links.specs.Links.upper, cmd_repair.specs.IdsListed.AreIdsListed};
 ghost use Rattle.base_file.specs.Base as model;

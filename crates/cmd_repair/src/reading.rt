@@ -1,5 +1,6 @@
 //! A list of ids is read, as `list --ids` prints it.
-ghost use Rattle.{std.specs.Prelude.{◌≡◌, ◌++◌, ◌∷◌, [], IfOk, List, OnOk, ℕ, map}, cmd_repair.specs.IdList.{ReadsIds, id_words, is_wrong, stage_after}};
+ghost use Rattle.std.specs.Prelude.{◌≡◌, ◌++◌, ◌∷◌, [], IfOk, List, OnOk, ℕ, map};
+ghost use Rattle.cmd_repair.specs.IdList.{ReadsIds, id_words, is_wrong, stage_after};
 ghost use Rattle.cmd_repair.specs.Words.{area_words, is_id_line};
 
 use crate::known::KnownIds;

@@ -1,5 +1,6 @@
 //! The lines of a link file one by one, each judged by the good lines before it.
-ghost use Rattle.{std.specs.Prelude.{◌≡◌, ◌++◌, ℕ, List, true, IfOk, OnOk}, echo_addr.specs.Entries.tokens, echo_text.specs.Lines.trimmed};
+ghost use Rattle.std.specs.Prelude.{◌≡◌, ◌++◌, ℕ, List, true, IfOk, OnOk};
+ghost use Rattle.{echo_addr.specs.Entries.tokens, echo_text.specs.Lines.trimmed};
 ghost use Rattle.{echo_links.specs.{Links.upper, LinkLines.first_of, LinkReading.{name_refusal, system_refusal}}, cmd_show.specs.FaultyLines.faulty_lines};
 ghost use Rattle.cmd_show.specs.Before.{HasTagAdded, IsBefore, JudgesLine, Tells, area_refused, area_says, line_reported, name_says, system_says};
 

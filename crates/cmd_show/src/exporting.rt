@@ -1,4 +1,5 @@
-ghost use Rattle.{std.specs.Prelude.{◌≡◌, ◌<◌, ◌^◌, ◌++◌, IfErr, IfOk, OnOk, OnErr, length, option_copied}, cmd_status.specs.{Devices.output_of, Ended.Stops}};
+ghost use Rattle.std.specs.Prelude.{◌≡◌, ◌<◌, ◌^◌, ◌++◌, IfErr, IfOk, OnOk, OnErr, length, option_copied};
+ghost use Rattle.cmd_status.specs.{Devices.output_of, Ended.Stops};
 ghost use Rattle.{cmd_status.specs.Lines.{PassesOn, WritesFront}, cmd_show.specs.Fetching.{PrintsReading, StopsReading}};
 ghost use Rattle.cmd_show.specs.Exporting.{IsExported, is_exported, is_sought, lost_line, sought_count, sought_lost, sought_text, sought_texts, state_of};
 ghost use Rattle.base_file.specs.Base as model;

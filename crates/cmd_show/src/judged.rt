@@ -1,4 +1,5 @@
-ghost use Rattle.{std.specs.Prelude.{◌≡◌, false, IfOk, Some}, cmd_show.specs.{FaultyLines.{is_homeless, reported_lines}, Judging.{IsJudged, is_memory}}};
+ghost use Rattle.std.specs.Prelude.{◌≡◌, false, IfOk, Some};
+ghost use Rattle.cmd_show.specs.{FaultyLines.{is_homeless, reported_lines}, Judging.{IsJudged, is_memory}};
 
 use crate::before::faulty_lines;
 use crate::faulty::FaultyLine;

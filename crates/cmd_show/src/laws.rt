@@ -1,6 +1,7 @@
 //! What holds of the definitions. Each law is the contract of a function that does nothing.
 
-ghost use Rattle.{std.specs.Prelude.{◌≡◌, ℕ, Bool, List, Option, Some, Result}, cmd_status.specs.{Devices.Output, declared.{fault.Fault.Fault, status.Status.Status}}};
+ghost use Rattle.std.specs.Prelude.{◌≡◌, ℕ, Bool, List, Option, Some, Result};
+ghost use Rattle.cmd_status.specs.{Devices.Output, declared.{fault.Fault.Fault, status.Status.Status}};
 ghost use Rattle.{cmd_status.specs.Ended.IsOfInput, echo_packet.specs.{declared.header.Header.Header, Message.Message}, cmd_show.specs.Showing.{ShowAnswers, IsShown}};
 ghost use Rattle.cmd_print.specs.Shown.{Shown};
 

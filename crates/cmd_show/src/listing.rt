@@ -1,4 +1,5 @@
-ghost use Rattle.{std.specs.Prelude.{◌≡◌, ◌++◌, IfErr, IfOk, OnOk, OnErr, length, option_copied, option_map}, cmd_status.specs.{Devices.output_of, Ended.Stops}};
+ghost use Rattle.std.specs.Prelude.{◌≡◌, ◌++◌, IfErr, IfOk, OnOk, OnErr, length, option_copied, option_map};
+ghost use Rattle.cmd_status.specs.{Devices.output_of, Ended.Stops};
 ghost use Rattle.{cmd_status.specs.Lines.{PassesOn, WritesFront}, echo_links.specs.Links.upper, cmd_show.specs.Listing.IsListed};
 ghost use Rattle.{cmd_print.specs.BaseListed.{asked_text, is_asked, is_of_area, messages_text}, cmd_show.specs.Fetching.{PrintsReading, StopsReading}};
 ghost use Rattle.base_file.specs.Base as model;

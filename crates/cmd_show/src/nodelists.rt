@@ -1,4 +1,5 @@
-ghost use Rattle.{std.specs.Prelude.{◌≡◌, ◌⊎◌, ◌++◌, IfErr, None, OnOk, OnErr}, cmd_status.specs.{Devices.output_of, Ended.{IsOutOfMemory, Stops}}};
+ghost use Rattle.std.specs.Prelude.{◌≡◌, ◌⊎◌, ◌++◌, IfErr, None, OnOk, OnErr};
+ghost use Rattle.cmd_status.specs.{Devices.output_of, Ended.{IsOutOfMemory, Stops}};
 ghost use Rattle.{cmd_status.specs.Lines.{PassesOn, WritesFront}, cmd_show.specs.{Nodelists.{NodelistAnswers, crc_status}, Written.{AddsLines, BeginsMore}}};
 ghost use Rattle.cmd_print.specs.Listed.{Listed, RestListed, addressed_text};
 

@@ -1,4 +1,5 @@
-ghost use Rattle.{std.specs.Prelude.{◌≡◌, ◌++◌, ◌<◌, ◌^◌, length, OnErr, OnOk, IfErr}, cmd_status.specs.{Devices.output_of, Ended.IsOutOfMemory, Limits.show_limits}};
+ghost use Rattle.std.specs.Prelude.{◌≡◌, ◌++◌, ◌<◌, ◌^◌, length, OnErr, OnOk, IfErr};
+ghost use Rattle.cmd_status.specs.{Devices.output_of, Ended.IsOutOfMemory, Limits.show_limits};
 ghost use Rattle.echo_packet.specs.{Reader.{IsReading, reader_given, reader_header, reader_limits, reader_place, reader_source}, Header.{IsHeader, header_bytes}};
 ghost use Rattle.{echo_text.specs.Echo.HasNoZero, cmd_print.specs.{Said.TextShown, Shown.{MessageShown, end_line, header_lines}, Pushed.Pushes}};
 ghost use Rattle.cmd_show.specs.Showing.{DecodeAnswers, MessagePasses, PacketAnswers, PacketPasses, ShowAnswers};

@@ -1,6 +1,7 @@
 //! Runs a command on a station of either kind, on the files of the system. The contract of `run_command` says what it reads
 //! and writes on any disk. The locks are held until its staging file is gone, and a damaged message was found.
-ghost use Rattle.{std.specs.Prelude.{◌≡◌, None, OnOk}, disk_io.specs.Disk.Honestly, station.specs.Opening.AreFree};
+ghost use Rattle.std.specs.Prelude.{◌≡◌, None, OnOk};
+ghost use Rattle.{disk_io.specs.Disk.Honestly, station.specs.Opening.AreFree};
 
 use crate::opened::Opened;
 use crate::place::Station;

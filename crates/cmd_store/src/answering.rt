@@ -1,5 +1,6 @@
 //! The words that an answer takes of the message that it answers.
-ghost use Rattle.{std.specs.Prelude.{◌≡◌, IfOk, option_copied, take}, cmd_store.specs.AnswerWords.{IsFound, answered, is_answer, named_id, room_behind}};
+ghost use Rattle.std.specs.Prelude.{◌≡◌, IfOk, option_copied, take};
+ghost use Rattle.cmd_store.specs.AnswerWords.{IsFound, answered, is_answer, named_id, room_behind};
 
 use echo_addr::Items;
 use echo_filed::Filed;

@@ -1,5 +1,6 @@
 //! The line that names the charset of a message.
-ghost use Rattle.{std.specs.Prelude.{◌≡◌, ◌++◌, IfOk, OnOk}, cmd_store.specs.CharsetLine.{charset_line, is_wide, level, with_line}};
+ghost use Rattle.std.specs.Prelude.{◌≡◌, ◌++◌, IfOk, OnOk};
+ghost use Rattle.cmd_store.specs.CharsetLine.{charset_line, is_wide, level, with_line};
 
 use echo_charset::Charset;
 use std::alloc::{AllocError, Global};

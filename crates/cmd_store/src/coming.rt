@@ -1,4 +1,5 @@
-ghost use Rattle.{std.specs.Prelude.{List, map}, cmd_store.specs.Coming.{Coming, Holds, OpensNext}};
+ghost use Rattle.std.specs.Prelude.{List, map};
+ghost use Rattle.cmd_store.specs.Coming.{Coming, Holds, OpensNext};
 
 use cmd_status::Fault;
 use disk_io::Source;

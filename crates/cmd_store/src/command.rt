@@ -1,5 +1,6 @@
 //! What a command on a store owes, whichever command and whichever store that is.
-ghost use Rattle.{std.specs.Prelude.{Bool, Result, IfErr, IsErrOf, OnOk}, base_file.specs.Base.Base, disk_io.specs.Disk.Honestly};
+ghost use Rattle.std.specs.Prelude.{Bool, Result, IfErr, IsErrOf, OnOk};
+ghost use Rattle.{base_file.specs.Base.Base, disk_io.specs.Disk.Honestly};
 ghost use Rattle.{echo_links.specs.Links.LinkFile as TheLinks, cmd_status.specs.Devices.{Output, output_of}, base_store.specs.Store.HasStoreCause};
 ghost use Rattle.{base_store.specs.declared.store_error.StoreError.TheVariants.TooMany, cmd_store.specs.Answered.{HasCommitted, MayMake, StaysWhereMet}};
 ghost use Rattle.cmd_store.specs.{Bounded.StaysTooMany, Stops.store_answer, declared.command_error.CommandError.CommandError as TheStop};

@@ -1,5 +1,6 @@
 //! The words of a posting, and the draft that they make.
-ghost use Rattle.{std.specs.Prelude.{◌≡◌, ◌++◌, IfOk, OnOk}, cmd_store.specs.Drafts.{draft_body, draft_byte, draft_given}};
+ghost use Rattle.std.specs.Prelude.{◌≡◌, ◌++◌, IfOk, OnOk};
+ghost use Rattle.cmd_store.specs.Drafts.{draft_body, draft_byte, draft_given};
 
 use echo_addr::Items;
 use model_steps::{Draft, Stamp};

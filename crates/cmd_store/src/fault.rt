@@ -1,4 +1,5 @@
-ghost use Rattle.{std.specs.Prelude.◌≡◌, cmd_store.specs.{declared.fault.LetterFault.TheVariants.Memory, Fault.{letter_fault, letter_status}}};
+ghost use Rattle.std.specs.Prelude.◌≡◌;
+ghost use Rattle.cmd_store.specs.{declared.fault.LetterFault.TheVariants.Memory, Fault.{letter_fault, letter_status}};
 
 use cmd_status::Status;
 use disk_io::Sink;

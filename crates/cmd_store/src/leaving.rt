@@ -1,5 +1,6 @@
 //! The end of a command: its lines are printed, and what the store holds is committed.
-ghost use Rattle.{std.specs.Prelude.{IfErr, IsErrOf, OnOk}, cmd_status.specs.Devices.output_of, base_store.specs.Store.{Commits, HasStoreCause, MayCommit}};
+ghost use Rattle.std.specs.Prelude.{IfErr, IsErrOf, OnOk};
+ghost use Rattle.{cmd_status.specs.Devices.output_of, base_store.specs.Store.{Commits, HasStoreCause, MayCommit}};
 ghost use Rattle.{base_store.specs.declared.store_error.StoreError.TheVariants.TooMany, cmd_store.specs.{Answered.{LooksWhereMet, PrintsAll}, Bounded.IsUncommitted}};
 ghost use Rattle.cmd_store.specs.Stops.{IsOfStore, store_answer};
 

@@ -1,5 +1,6 @@
 //! The words and the body that a mail says.
-ghost use Rattle.{std.specs.{Prelude.{◌≡◌, [], codes, option_copied, unwrap_or, IfOk}, Option.option_or}, echo_mail.specs.{Area.area_in, Body.{text_of, value_in}}};
+ghost use Rattle.std.specs.{Prelude.{◌≡◌, [], codes, option_copied, unwrap_or, IfOk}, Option.option_or};
+ghost use Rattle.echo_mail.specs.{Area.area_in, Body.{text_of, value_in}};
 ghost use Rattle.{echo_mail.specs.Mail.mail_in, cmd_store.specs.Letter.{IsArea, IsBody, LetterAnswers, LetterOf, answered_id, are_wide, field, true_id}};
 
 use crate::charset_line::{is_wide, with_line};

@@ -1,4 +1,5 @@
-ghost use Rattle.{std.specs.Prelude.false, echo_toss.specs.PacketsIn.state_in, cmd_store.specs.{Bounded.AddsMailed, MailPosted.{Mails, MailsOn, ReadsMail}}};
+ghost use Rattle.std.specs.Prelude.false;
+ghost use Rattle.{echo_toss.specs.PacketsIn.state_in, cmd_store.specs.{Bounded.AddsMailed, MailPosted.{Mails, MailsOn, ReadsMail}}};
 
 use crate::fault::LetterFault;
 use crate::letter::{Letter, read_letter};

@@ -1,5 +1,6 @@
 //! The command `purge` on a store.
-ghost use Rattle.{std.specs.Prelude.{true, IfErr, IsErrOf, OnOk}, disk_io.specs.Disk.Honestly, base_file.specs.Base.Base, cmd_status.specs.Devices.output_of};
+ghost use Rattle.std.specs.Prelude.{true, IfErr, IsErrOf, OnOk};
+ghost use Rattle.{disk_io.specs.Disk.Honestly, base_file.specs.Base.Base, cmd_status.specs.Devices.output_of};
 ghost use Rattle.base_store.specs.{Store.HasStoreCause, declared.store_error.StoreError.TheVariants.TooMany};
 ghost use Rattle.cmd_store.specs.{Answered.{HasCommitted, MayCommitWhereMet, MayMake}, Bounded.IsStoppedHeld, Purged.{HoldsOrPurges, Purges, PurgesOn}};
 ghost use Rattle.{cmd_store.specs.Stops.store_answer, echo_toss.specs.Bounds.AddsNone};

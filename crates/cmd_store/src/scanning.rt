@@ -1,4 +1,5 @@
-ghost use Rattle.{std.specs.{Prelude.{◌≡◌, Ok}, List.flat_map}, cmd_status.specs.Devices.output_of, cmd_store.specs.PacketLines.counted_line};
+ghost use Rattle.std.specs.{Prelude.{◌≡◌, Ok}, List.flat_map};
+ghost use Rattle.{cmd_status.specs.Devices.output_of, cmd_store.specs.PacketLines.counted_line};
 ghost use Rattle.cmd_store.specs.{Answered.{AnswersOn, AreLines, RefusesNone}, Stops.store_answer};
 
 use crate::command_error::CommandError;

@@ -1,5 +1,6 @@
 //! The serial with which a message is posted.
-ghost use Rattle.{std.specs.Prelude.{◌≡◌, ◌↔◌, true, IfErr, IsErrOf, IsTrue, OnOk}, disk_io.specs.Disk.Honestly, base_file.specs.Base.Base};
+ghost use Rattle.std.specs.Prelude.{◌≡◌, ◌↔◌, true, IfErr, IsErrOf, IsTrue, OnOk};
+ghost use Rattle.{disk_io.specs.Disk.Honestly, base_file.specs.Base.Base};
 ghost use Rattle.{model_steps.specs.declared.fault.PostFault.TheVariants.KnownSerial, base_store.specs.Store.{CommitsNothing, GoesOn, HasStoreCause}};
 ghost use Rattle.{base_store.specs.declared.store_error.StoreError.TheVariants.TooMany, echo_toss.specs.declared.step_error.PostStepError.TheVariants.Refused};
 ghost use Rattle.{echo_toss.specs.{Stores.{LooksWhereRefused, post_answer}, Bounds.IsPastBound}, cmd_store.specs.{Bounded.AddsDraft, FreeSerial.FilesAs}};

@@ -1,5 +1,6 @@
 //! Tosses a packet into a store, and notes the messages that were not filed.
-ghost use Rattle.{std.specs.Prelude.{◌≡◌, ◌≢◌, ◌++◌, IfErr, IsErr, IsErrOf, OnErr, OnOk}, base_file.specs.Base.Base, disk_io.specs.Disk.Honestly};
+ghost use Rattle.std.specs.Prelude.{◌≡◌, ◌≢◌, ◌++◌, IfErr, IsErr, IsErrOf, OnErr, OnOk};
+ghost use Rattle.{base_file.specs.Base.Base, disk_io.specs.Disk.Honestly};
 ghost use Rattle.base_store.specs.{Store.{CommitsNothing, HasStoreCause}, declared.store_error.StoreError.TheVariants.TooMany};
 ghost use Rattle.{model_steps.specs.declared.outcome.Outcome.TheVariants.Filed, cmd_store.specs.NotedIn.{CanBegin, NotesMessagesIn, NotesPacketIn}};
 ghost use Rattle.echo_toss.specs.{PacketsIn.{GoesOnUnlessFailed, messages_answer, packet_answer, stop_in, toss_answer}, Bounds.{AddsReceived, IsPastBound}};

@@ -1,4 +1,5 @@
-ghost use Rattle.{std.specs.Prelude.{◌≡◌, false, IfErr, IsErrOf, OnOk}, disk_io.specs.Disk.Honestly, base_file.specs.Base.Base};
+ghost use Rattle.std.specs.Prelude.{◌≡◌, false, IfErr, IsErrOf, OnOk};
+ghost use Rattle.{disk_io.specs.Disk.Honestly, base_file.specs.Base.Base};
 ghost use Rattle.{cmd_status.specs.Devices.{device_of, output_of}, base_store.specs.Store.{CommitsNothing, GoesOn, HasStoreCause}};
 ghost use Rattle.cmd_store.specs.{Tossed.{PrintsRun, ReportsIn, Tosses, TossesFiles, TossesIn, TossesNext, TossesOn, TossesTo}, Lines.HasTallyRoom};
 ghost use Rattle.cmd_store.specs.{TossedPacket.TossRun, Answered.{CommitsNoneWhereMet, MayMake}, Bounded.IsStoppedFull, Stops.store_answer};

@@ -1,5 +1,6 @@
 //! The link files of systems that sent none, for several areas at once.
-ghost use Rattle.{std.specs.{Prelude.{◌≡◌, ◌++◌, ◌∷◌, [], ◌⊎◌, ℕ, List, IfErr, IfOk, OnOk, filter}, List.AllZip}, echo_links.specs.Links.{LinkFile, upper}};
+ghost use Rattle.std.specs.{Prelude.{◌≡◌, ◌++◌, ◌∷◌, [], ◌⊎◌, ℕ, List, IfErr, IfOk, OnOk, filter}, List.AllZip};
+ghost use Rattle.echo_links.specs.Links.{LinkFile, upper};
 ghost use Rattle.{cmd_suppose.specs.Listings.{IsListing, is_listed}, cmd_status.specs.{Ended.IsOutOfMemory, Inputs.IsLinkFault}, cmd_print.specs.Pushed.Pushes};
 ghost use Rattle.cmd_suppose.specs.SupposedFiles.{AddsSupposed, AreMissing, AreSupposed, AreSupposedLines, AreUnseen, IsSupposedFile, ReadsMore, ReadsSupposed, Supposes, SupposesIn, supposed_here, unseen_line};
 ghost use Rattle.cmd_suppose.specs.SupposedFiles as supposed;

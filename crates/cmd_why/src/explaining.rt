@@ -1,4 +1,5 @@
-ghost use Rattle.{std.specs.Prelude.{IfOk, IfSome}, cmd_why.specs.{Found.IsShown, Sources.files_of}};
+ghost use Rattle.std.specs.Prelude.{IfOk, IfSome};
+ghost use Rattle.cmd_why.specs.{Found.IsShown, Sources.files_of};
 
 use crate::confirming::confirmed;
 use crate::shown::Shown;

@@ -1,4 +1,5 @@
-ghost use Rattle.{std.specs.Prelude.{◌≡◌, ◌≢◌, IfOk, IfSome, IsTrue, Some}, model_graph.specs.Walk.Among, echo_links.specs.Links.same_address};
+ghost use Rattle.std.specs.Prelude.{◌≡◌, ◌≢◌, IfOk, IfSome, IsTrue, Some};
+ghost use Rattle.{model_graph.specs.Walk.Among, echo_links.specs.Links.same_address};
 ghost use Rattle.{model_run.specs.Run.{Run, System, nth}, model_replay.specs.Worlds.IsWorldOf, cmd_why.specs.Found.{CarriesAt, HasHarm, PostedAt}};
 
 use crate::copies::{is_posting, sent_times};

@@ -1,6 +1,7 @@
 //! Laws about the runs that are shown. Each law is the contract of a function that does nothing.
 
-ghost use Rattle.{std.specs.Prelude.{ℕ, List}, echo_links.specs.Links.LinkFile, model_run.specs.{Harms.Harm, Orderly.Orderly}};
+ghost use Rattle.std.specs.Prelude.{ℕ, List};
+ghost use Rattle.{echo_links.specs.Links.LinkFile, model_run.specs.{Harms.Harm, Orderly.Orderly}};
 ghost use Rattle.cmd_why.specs.{declared.shown.Shown.Shown, Found.{BreaksIt, IsShown}, Shown.shown_run};
 
 use echo_filed::stub_laws;

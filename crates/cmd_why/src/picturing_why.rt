@@ -1,5 +1,6 @@
 //! What `picture --why` answers.
-ghost use Rattle.{std.specs.Prelude.{◌≡◌, ℕ, IfOk, List, None}, echo_links.specs.Links.upper, cmd_status.specs.{Devices.output_of, Inputs.AreLinkFiles}};
+ghost use Rattle.std.specs.Prelude.{◌≡◌, ℕ, IfOk, List, None};
+ghost use Rattle.{echo_links.specs.Links.upper, cmd_status.specs.{Devices.output_of, Inputs.AreLinkFiles}};
 ghost use Rattle.cmd_why.specs.PicturingWhy.{AreCrossings, PictureWhyAnswers};
 
 use crate::carrying::crossings;

@@ -1,5 +1,6 @@
 //! What `why` answers.
-ghost use Rattle.{std.specs.Prelude.{◌≡◌, ℕ, List, None, option_copied}, echo_links.specs.Links.upper, cmd_status.specs.{Devices.output_of, Inputs.AreLinkFiles}};
+ghost use Rattle.std.specs.Prelude.{◌≡◌, ℕ, List, None, option_copied};
+ghost use Rattle.{echo_links.specs.Links.upper, cmd_status.specs.{Devices.output_of, Inputs.AreLinkFiles}};
 ghost use Rattle.cmd_why.specs.Reasoning.{PrintsWhy, WhyAnswers};
 
 use crate::explaining::explain;

@@ -1,5 +1,6 @@
 //! What `replay` answers.
-ghost use Rattle.{std.specs.Prelude.{◌⊎◌, ℕ, List, None, Ok, IfErr, IfOk}, cmd_status.specs.{Devices.output_of, Ended.IsOutOfMemory, Inputs.AreLinkFiles}};
+ghost use Rattle.std.specs.Prelude.{◌⊎◌, ℕ, List, None, Ok, IfErr, IfOk};
+ghost use Rattle.cmd_status.specs.{Devices.output_of, Ended.IsOutOfMemory, Inputs.AreLinkFiles};
 ghost use Rattle.{cmd_why.specs.Replaying.{IsScriptFault, PrintsWorld, ReplayAnswers}, model_replay.specs.Script.ScriptOf};
 
 use crate::replay_text::push_world;

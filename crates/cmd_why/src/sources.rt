@@ -1,4 +1,5 @@
-ghost use Rattle.{std.specs.Prelude.{◌≡◌, IfOk}, echo_links.specs.LinkLines.file_of, cmd_why.specs.Sources.files_of};
+ghost use Rattle.std.specs.Prelude.{◌≡◌, IfOk};
+ghost use Rattle.{echo_links.specs.LinkLines.file_of, cmd_why.specs.Sources.files_of};
 
 use echo_addr::Items;
 use echo_links::LinkFile;

@@ -1,6 +1,7 @@
 //! Laws about the definitions. Each law is the contract of a function that does nothing.
 
-ghost use Rattle.{std.specs.Prelude.{◌≡◌, Bool, List, Ok, Option}, base_file.specs.Base.Base, echo_links.specs.Links.LinkFile};
+ghost use Rattle.std.specs.Prelude.{◌≡◌, Bool, List, Ok, Option};
+ghost use Rattle.{base_file.specs.Base.Base, echo_links.specs.Links.LinkFile};
 ghost use Rattle.{echo_packet.specs.declared.limits.Limits.Limits, cmd_status.specs.{Devices.{Output, device_of}, declared.fault.Fault.Fault}};
 ghost use Rattle.{cmd_store.specs.{Coming.Coming, Tossed.{Tosses, TossesTo}}, law_stations.specs.{Agreement.{EventIsEvents, EventsAreARun}, Commands.TossesAll}};
 ghost use Rattle.law_stations.specs.{AnyNets.HeadlineFromAnyState, InOrder.NetsAreSound};

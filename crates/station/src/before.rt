@@ -1,5 +1,6 @@
 //! What a program does with the store of a station before the command.
-ghost use Rattle.{std.specs.Prelude.{◌≡◌, ◌≤◌, ◌⊎◌, None, Some, IfErr, OnOk}, cmd_status.specs.declared.fault.Fault.Fault as TheFault, base_store.specs.Store.LooksOn};
+ghost use Rattle.std.specs.Prelude.{◌≡◌, ◌≤◌, ◌⊎◌, None, Some, IfErr, OnOk};
+ghost use Rattle.{cmd_status.specs.declared.fault.Fault.Fault as TheFault, base_store.specs.Store.LooksOn};
 
 use base_store::Store;
 use cmd_status::Fault;

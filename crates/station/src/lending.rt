@@ -1,5 +1,6 @@
 //! A store lends its disk to a job, for files that do not belong to the store.
-ghost use Rattle.{std.specs.Prelude.{◌↔◌, ℕ, List, IsTrue}, disk_io.specs.Disk.DiskState, disk_atomic.specs.Changes.ChangesOnly};
+ghost use Rattle.std.specs.Prelude.{◌↔◌, ℕ, List, IsTrue};
+ghost use Rattle.{disk_io.specs.Disk.DiskState, disk_atomic.specs.Changes.ChangesOnly};
 ghost use Rattle.station.specs.Beneath.{AreSettledByOwn, IsUsedAt};
 
 use crate::opening::OpenStation;

@@ -1,5 +1,6 @@
 //! The link file alone, and other files that are locked.
-ghost use Rattle.{std.specs.Prelude.{◌≡◌, ◌≤◌, ◌⊎◌, length, IfErr, IfOk, OnOk, Some, None}, disk_io.specs.{Device.Failed, Disk.Honestly, Runs.ChangesNothing}};
+ghost use Rattle.std.specs.Prelude.{◌≡◌, ◌≤◌, ◌⊎◌, length, IfErr, IfOk, OnOk, Some, None};
+ghost use Rattle.disk_io.specs.{Device.Failed, Disk.Honestly, Runs.ChangesNothing};
 ghost use Rattle.station.specs.{Faults.{FailsAt, HaveFailed, LinksUnread, most_links}, Links.{AreLinks, NoLinks}, Opening.AreFree};
 
 use crate::locks::Locks;

@@ -1,5 +1,6 @@
 //! The trait of a kind of station.
-ghost use Rattle.{std.specs.Prelude.{◌≡◌, ◌⊎◌, ℕ, List, Option, IfErr, IfOk, OnOk}, disk_io.specs.{Disk.{DiskState, Files, Honestly}, Runs.ChangesNothing}};
+ghost use Rattle.std.specs.Prelude.{◌≡◌, ◌⊎◌, ℕ, List, Option, IfErr, IfOk, OnOk};
+ghost use Rattle.disk_io.specs.{Disk.{DiskState, Files, Honestly}, Runs.ChangesNothing};
 ghost use Rattle.{echo_links.specs.Links.LinkFile as TheLinks, cmd_status.specs.declared.fault.Fault.Fault as TheFault};
 ghost use Rattle.station.specs.{Opening.{AreFree, HaveFailed, IsNotOpened, IsOpened}, Place.Place};
 

@@ -1,5 +1,6 @@
 //! The packet files of `toss` on a disk: each is opened when its turn comes.
-ghost use Rattle.{std.specs.Prelude.{◌≡◌, ◌≤◌, Some, map, IfOk}, disk_io.specs.{Disk.Honestly, Runs.{ChangesNothing, HasCause}}, cmd_store.specs.Coming.Opens};
+ghost use Rattle.std.specs.Prelude.{◌≡◌, ◌≤◌, Some, map, IfOk};
+ghost use Rattle.{disk_io.specs.{Disk.Honestly, Runs.{ChangesNothing, HasCause}}, cmd_store.specs.Coming.Opens};
 ghost use Rattle.station.specs.{PacketReader.held_remaining, PacketsFound.IsFound, Faults.HasSize, PacketsOnDisk.{coming_at, most_held}};
 
 use crate::held_bytes::HeldBytes;

@@ -1,5 +1,6 @@
 //! The link file of a station is read.
-ghost use Rattle.{std.specs.Prelude.{◌≡◌, ◌≤◌, length, IfErr, IfOk, OnOk, IsSome, Some, None}, disk_io.specs.{Device.Failed, Disk.{Honestly, bytes_in}}};
+ghost use Rattle.std.specs.Prelude.{◌≡◌, ◌≤◌, length, IfErr, IfOk, OnOk, IsSome, Some, None};
+ghost use Rattle.disk_io.specs.{Device.Failed, Disk.{Honestly, bytes_in}};
 ghost use Rattle.{disk_io.specs.Runs.{ChangesNothing, HasCause}, station.specs.Faults.{HasSize, IsFaultAt, LinksUnread, most_links}};
 
 use cmd_status::{Fault, FileLock};

@@ -1,5 +1,6 @@
 //! A command is run on a station.
-ghost use Rattle.{std.specs.Prelude.{◌⊎◌, IsErrOf, OnOk}, disk_io.specs.{Disk.Honestly, Runs.ChangesNothing}, cmd_status.specs.Devices.output_of};
+ghost use Rattle.std.specs.Prelude.{◌⊎◌, IsErrOf, OnOk};
+ghost use Rattle.{disk_io.specs.{Disk.Honestly, Runs.ChangesNothing}, cmd_status.specs.Devices.output_of};
 ghost use Rattle.station.specs.{Opening.{AreFree, HaveFailed}, Place.KeepsElsewhere, Running.{EndsSound, IsNotRun, IsRefusedFull, NeedsBase, RunsIn}};
 ghost use Rattle.{base_store.specs.declared.store_error.StoreError.TheVariants.TooMany, cmd_store.specs.declared.command_error.CommandError.TheVariants.Store};
 

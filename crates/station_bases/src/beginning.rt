@@ -1,5 +1,6 @@
 //! A base folder of a station opened as a store.
-ghost use Rattle.{std.specs.Prelude.{◌≡◌, ◌≤◌, IfErr, IfOk, Some}, base_folder.specs.{Ours.number_of, Unopened.OpensOnly}, disk_io.specs.Device.Failed};
+ghost use Rattle.std.specs.Prelude.{◌≡◌, ◌≤◌, IfErr, IfOk, Some};
+ghost use Rattle.{base_folder.specs.{Ours.number_of, Unopened.OpensOnly}, disk_io.specs.Device.Failed};
 ghost use Rattle.{disk_io.specs.Disk.Honestly, base_log.specs.Opening.AreAlone, station_bases.specs.{InFolder.IsFolderShut, Opening.{IsBegun, IsOfFolder}}};
 
 use crate::opening::{Station, open_station};

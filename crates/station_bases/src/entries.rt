@@ -1,6 +1,7 @@
 //! A base file with its messages left in the file. In memory are the place and the digest of each, and chains for
 //! look-ups: some 24 bytes a message.
-ghost use Rattle.{std.specs.Prelude.{◌≡◌, ◌≤◌, ◌<◌, ◌/◌, List, length, IsErrOf, Some, slice_get}, disk_io.specs.{Disk.{Honestly, bytes_in}, Runs.ChangesNothing}};
+ghost use Rattle.std.specs.Prelude.{◌≡◌, ◌≤◌, ◌<◌, ◌/◌, List, length, IsErrOf, Some, slice_get};
+ghost use Rattle.disk_io.specs.{Disk.{Honestly, bytes_in}, Runs.ChangesNothing};
 ghost use Rattle.{echo_filed.specs.Filed.Filed, base_store.specs.Keys.AreWhereRecorded, base_folder_store.specs.Answers.{Answers, HasReadCause, IsStoredOf}};
 ghost use Rattle.{base_folder_store.specs.Ahead.IsPartOf, station_bases.specs.Entries.{CanFetch, IsWithinFile, message_bytes}};
 

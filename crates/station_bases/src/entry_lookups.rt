@@ -1,5 +1,6 @@
 //! A message of a base file looked up by its digest. Only messages that have it are read, and keys are compared whole.
-ghost use Rattle.{std.specs.{Prelude.{◌≡◌, List, IsErrOf}, List.list_any}, disk_io.specs.{Disk.{Honestly, bytes_in}, Runs.ChangesNothing}};
+ghost use Rattle.std.specs.{Prelude.{◌≡◌, List, IsErrOf}, List.list_any};
+ghost use Rattle.disk_io.specs.{Disk.{Honestly, bytes_in}, Runs.ChangesNothing};
 ghost use Rattle.{echo_filed.specs.Filed.Filed, base_store.specs.Keys.AreWhereRecorded, base_folder_store.specs.Answers.{Answers, HasReadCause, HaveDigest}};
 ghost use Rattle.station_bases.specs.Entries.{AreIndexed, CanLookUp, message_bytes};
 

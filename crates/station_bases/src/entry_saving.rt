@@ -1,5 +1,6 @@
 //! A base file is replaced by one with the messages that wait behind it, or is read whole.
-ghost use Rattle.{std.specs.Prelude.{◌≡◌, ◌≢◌, ◌≤◌, ◌/◌, ℕ, All, Ok, length, IfOk, IsErrOf, IsSome, OnOk}, disk_io.specs.Disk.{Honestly, bytes_in}};
+ghost use Rattle.std.specs.Prelude.{◌≡◌, ◌≢◌, ◌≤◌, ◌/◌, ℕ, All, Ok, length, IfOk, IsErrOf, IsSome, OnOk};
+ghost use Rattle.disk_io.specs.Disk.{Honestly, bytes_in};
 ghost use Rattle.{disk_io.specs.Runs.{ChangesNothing, HasCause, LeavesOnly, OneStepOn}, disk_atomic.specs.{Changes.{ChangesOnly, HasOnDisk}, Keeping.kept_bytes}};
 ghost use Rattle.{disk_atomic.specs.{Replacing.Replaces, StagingPaths.staging_path}, echo_filed.specs.declared.stored.Version.TheVariants.Second};
 ghost use Rattle.{base_file.specs.{Base.Base as TheBase, BaseFile.{LoadOf, head_bytes}}, base_folder_store.specs.Answers.{Answers, HasReadCause}};

@@ -1,5 +1,6 @@
 //! A station with its base in a file.
-ghost use Rattle.{std.specs.Prelude.{◌≡◌, Some}, base_file.specs.Base.Base, station.specs.Links.AreLinks, station_bases.specs.InFile.RepresentsInFile};
+ghost use Rattle.std.specs.Prelude.{◌≡◌, Some};
+ghost use Rattle.{base_file.specs.Base.Base, station.specs.Links.AreLinks, station_bases.specs.InFile.RepresentsInFile};
 ghost use Rattle.station_bases.specs.Reading.{IsShutFor, file_place};
 
 use crate::file_store::FileStore;

@@ -1,5 +1,6 @@
 //! A base file on a disk, as a store.
-ghost use Rattle.{std.specs.Prelude.{◌≡◌, false, IsErrOf, OnOk}, disk_io.specs.{Disk.Honestly, Runs.ChangesNothing}, base_file.specs.Base.Base as TheBase};
+ghost use Rattle.std.specs.Prelude.{◌≡◌, false, IsErrOf, OnOk};
+ghost use Rattle.{disk_io.specs.{Disk.Honestly, Runs.ChangesNothing}, base_file.specs.Base.Base as TheBase};
 ghost use Rattle.{base_store.specs.Store.HasStoreCause, station_bases.specs.InFile.{IsHeld, IsInMemory, file_state}};
 
 use crate::entry_adding::check_room;

@@ -1,5 +1,6 @@
 //! The disk of a station with a base folder is used for other files.
-ghost use Rattle.{std.specs.Prelude.{◌≡◌, ◌≢◌, ◌↔◌, ℕ, List, true, false, All, IsTrue}, disk_io.specs.Disk.IsIn, station.specs.Beneath.IsUsedAt};
+ghost use Rattle.std.specs.Prelude.{◌≡◌, ◌≢◌, ◌↔◌, ℕ, List, true, false, All, IsTrue};
+ghost use Rattle.{disk_io.specs.Disk.IsIn, station.specs.Beneath.IsUsedAt};
 
 use crate::folder_station::FolderStation;
 use base_folder_store::FolderStore;

@@ -1,5 +1,6 @@
 //! A station with its base in a folder.
-ghost use Rattle.{std.specs.Prelude.{◌≡◌, Some}, disk_io.specs.Runs.ChangesNothing, base_folder.specs.Wrong.IsSound, base_log.specs.Opening.AreAlone};
+ghost use Rattle.std.specs.Prelude.{◌≡◌, Some};
+ghost use Rattle.{disk_io.specs.Runs.ChangesNothing, base_folder.specs.Wrong.IsSound, base_log.specs.Opening.AreAlone};
 ghost use Rattle.station_bases.specs.InFolder.{IsFolderShut, IsOwnLinks, folder_place};
 
 use crate::beginning::{Begun, open_store};

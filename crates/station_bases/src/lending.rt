@@ -1,5 +1,6 @@
 //! The disk of a station with a base file is used for other files.
-ghost use Rattle.{std.specs.Prelude.{◌≡◌, ◌↔◌, ◌++◌, ℕ, List, IsTrue, codes}, disk_atomic.specs.StagingPaths.staging_path, station_bases.specs.InFile.IsOfFile};
+ghost use Rattle.std.specs.Prelude.{◌≡◌, ◌↔◌, ◌++◌, ℕ, List, IsTrue, codes};
+ghost use Rattle.{disk_atomic.specs.StagingPaths.staging_path, station_bases.specs.InFile.IsOfFile};
 
 use crate::file_station::FileStation;
 use crate::file_store::FileStore;

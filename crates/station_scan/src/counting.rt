@@ -1,5 +1,6 @@
 //! The packets for the links, and what each has so far.
-ghost use Rattle.{std.specs.{Prelude.{◌≡◌, [], map, IfOk, Ok}, List.flat_map}, cmd_status.specs.Devices.output_of, cmd_store.specs.PacketLines.counted_line};
+ghost use Rattle.std.specs.{Prelude.{◌≡◌, [], map, IfOk, Ok}, List.flat_map};
+ghost use Rattle.{cmd_status.specs.Devices.output_of, cmd_store.specs.PacketLines.counted_line};
 ghost use Rattle.cmd_store.specs.{Answered.{AnswersOn, AreLines, RefusesNone}, Stops.store_answer};
 ghost use Rattle.station_scan.specs.{Passing.{AreCounted, begun_in, copied_in, counts_in, made_in, with_group}, Sending.AreRoutes};
 

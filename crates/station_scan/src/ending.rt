@@ -1,5 +1,6 @@
 //! Packets in staging files come to their end, before a commit.
-ghost use Rattle.{std.specs.Prelude.{◌≡◌, true, false, All, IfErr, IfOk, OnOk}, disk_io.specs.{Disk.Honestly, Runs.HasCause}, disk_atomic.specs.Changes.ChangesOnly};
+ghost use Rattle.std.specs.Prelude.{◌≡◌, true, false, All, IfErr, IfOk, OnOk};
+ghost use Rattle.{disk_io.specs.{Disk.Honestly, Runs.HasCause}, disk_atomic.specs.Changes.ChangesOnly};
 ghost use Rattle.{disk_atomic.specs.Outgoing.IsAtStaging, station_scan.specs.Publishing.{AreStaged, HasStageCause, IsTriedWith, IsWritten, NoneStays, ended_in}};
 ghost use Rattle.station_scan.specs.Writing.{CanEnd};
 

@@ -1,5 +1,6 @@
 //! Which packets earlier scans left.
-ghost use Rattle.{std.specs.Prelude.{◌≡◌, true, false, All, Contains, IfOk, IfSome, OnOk, None}, disk_io.specs.{Disk.Honestly, Runs.{ChangesNothing, HasCause}}};
+ghost use Rattle.std.specs.Prelude.{◌≡◌, true, false, All, Contains, IfOk, IfSome, OnOk, None};
+ghost use Rattle.disk_io.specs.{Disk.Honestly, Runs.{ChangesNothing, HasCause}};
 ghost use Rattle.station_scan.specs.{Left.{Adds, AreFound, HaveOtherLeft, IsStagingThere, IsFoundAs, IsFoundWhere, IsToFind}, declared.finding.LeftPaths.LeftPaths};
 
 use crate::fitting::{differ, is_name, is_off_own};

@@ -1,5 +1,6 @@
 //! The packets that earlier scans left are named or removed.
-ghost use Rattle.{std.specs.Prelude.{◌≢◌, List, All, IfOk, IsErrOf}, disk_io.specs.Disk.Honestly, disk_atomic.specs.{Changes.ChangesOnly, Finishing.AreLeftIn}};
+ghost use Rattle.std.specs.Prelude.{◌≢◌, List, All, IfOk, IsErrOf};
+ghost use Rattle.{disk_io.specs.Disk.Honestly, disk_atomic.specs.{Changes.ChangesOnly, Finishing.AreLeftIn}};
 ghost use Rattle.disk_atomic.specs.{ListStaged.AreListed, Publishing.HasPlacingCause, declared.finishing.Left.Left};
 ghost use Rattle.station_scan.specs.Left.{AreFreeLeft, AreSameLeft, EndsLeft, EndsThese, IsStagingThere, IsFreeFound, IsOfNameOff, IsOfPaths};
 

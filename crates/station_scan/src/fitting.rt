@@ -1,5 +1,6 @@
 //! Whether packets go to paths that belong to nothing else.
-ghost use Rattle.{std.specs.Prelude.{◌≡◌, ◌≢◌, true, false, All}, disk_atomic.specs.ListStaged.IsNameByte, station_scan.specs.{Fitting.IsOff, Sending.IsOffOwn}};
+ghost use Rattle.std.specs.Prelude.{◌≡◌, ◌≢◌, true, false, All};
+ghost use Rattle.{disk_atomic.specs.ListStaged.IsNameByte, station_scan.specs.{Fitting.IsOff, Sending.IsOffOwn}};
 
 use crate::sending::TwoPaths;
 use disk_atomic::Outgoing;

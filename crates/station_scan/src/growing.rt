@@ -1,5 +1,6 @@
 //! The staging files of packets grow by the copies of a group of messages.
-ghost use Rattle.{std.specs.Prelude.{◌<◌, ◌++◌, ℕ, List, length, All, IsErrOf, OnOk}, disk_io.specs.{Disk.{Honestly, IsIn}, Runs.HasCause}};
+ghost use Rattle.std.specs.Prelude.{◌<◌, ◌++◌, ℕ, List, length, All, IsErrOf, OnOk};
+ghost use Rattle.disk_io.specs.{Disk.{Honestly, IsIn}, Runs.HasCause};
 ghost use Rattle.disk_atomic.specs.{Changes.ChangesOnly, Outgoing.{ArePlaced, IsAtStaging, IsFree, IsStagingOne}, Publishing.HasPlacingCause};
 ghost use Rattle.{echo_toss.specs.Exports.OutgoingMessage as Sent, station_scan.specs.{Passing.{AreGrowing, IsAppending, header_for}, Publishing.IsWritten}};
 ghost use Rattle.station_scan.specs.Writing.{IsBegun, IsOpen};

@@ -1,5 +1,6 @@
 //! A pass over the messages of a store: packets are counted, and their copies are written while they are read.
-ghost use Rattle.{std.specs.Prelude.{◌≡◌, ◌⊎◌, ◌++◌, [], List, All, IfErr, IfOk, IsErrOf, OnOk, map}, base_file.specs.Base.Base, disk_io.specs.Disk.Honestly};
+ghost use Rattle.std.specs.Prelude.{◌≡◌, ◌⊎◌, ◌++◌, [], List, All, IfErr, IfOk, IsErrOf, OnOk, map};
+ghost use Rattle.{base_file.specs.Base.Base, disk_io.specs.Disk.Honestly};
 ghost use Rattle.{disk_atomic.specs.Publishing.HasPlacingCause, echo_toss.specs.Exports.OutgoingMessage as Sent};
 ghost use Rattle.station_scan.specs.Passing.{AreTakenTo, CanSend, HasPassed, HasStaged, IsBetween, IsMaking, IsPartOf, IsTakenFor, begun_in, copied_in, with_group};
 ghost use Rattle.station_scan.specs.{Fitting.IsOff, Writing.HasStopCause};

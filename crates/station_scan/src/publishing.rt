@@ -1,5 +1,6 @@
 //! Packets and the commit of a store, together.
-ghost use Rattle.{std.specs.Prelude.{◌⊎◌, All, IfErr, OnOk, IsErrOf}, disk_io.specs.Disk.Honestly, disk_atomic.specs.Outgoing.{ArePlaced, IsFree, IsOfOne}};
+ghost use Rattle.std.specs.Prelude.{◌⊎◌, All, IfErr, OnOk, IsErrOf};
+ghost use Rattle.{disk_io.specs.Disk.Honestly, disk_atomic.specs.Outgoing.{ArePlaced, IsFree, IsOfOne}};
 ghost use Rattle.{disk_atomic.specs.Publishing.IsApartFrom, station.specs.Beneath.HoldsAsBefore, station_scan.specs.Writing.CanStage};
 ghost use Rattle.station_scan.specs.Publishing.{ArePublished, AreStaged, HasCommitCause, HasPublishCause, IsGoingAt, IsNamedAs, IsPublishedAt, IsTriedWith, KeepsStoreBut, MayCommitWith, MayPublish, StopsCommitting, StopsPublishing, ended_before, staged_before};
 

@@ -1,5 +1,6 @@
 //! The packets of the messages that waited are put under their names.
-ghost use Rattle.{std.specs.Prelude.{◌≡◌, ◌≢◌, ◌≤◌, ◌⊎◌, ℕ, List, true, All, IsErrOf, OnOk}, base_file.specs.Base.Base, disk_io.specs.{Device.Failed, Disk.Honestly}};
+ghost use Rattle.std.specs.Prelude.{◌≡◌, ◌≢◌, ◌≤◌, ◌⊎◌, ℕ, List, true, All, IsErrOf, OnOk};
+ghost use Rattle.{base_file.specs.Base.Base, disk_io.specs.{Device.Failed, Disk.Honestly}};
 ghost use Rattle.{cmd_status.specs.Devices.output_of, model_steps.specs.Stamps.is_stamp, station.specs.Beneath.{AreSettledByOwn, IsUsedAt}};
 ghost use Rattle.station_scan.specs.{Left.{AreFreeLeft, EndsLeft, IsOfNameOff}, Moved.{HasScanCause, IsMoved}, Publishing.KeepsStoreBut};
 ghost use Rattle.station_scan.specs.Scanning.{IsTouched, ScansOnStore};

@@ -1,5 +1,6 @@
 //! The lines of a scan that stops before its packets are made.
-ghost use Rattle.{std.specs.Prelude.{◌≡◌, true}, cmd_status.specs.Devices.output_of, model_steps.specs.Stamps.is_stamp};
+ghost use Rattle.std.specs.Prelude.{◌≡◌, true};
+ghost use Rattle.{cmd_status.specs.Devices.output_of, model_steps.specs.Stamps.is_stamp};
 ghost use Rattle.station_scan.specs.Moved.{HasReported, left_cause, left_reported, reported_as};
 
 use crate::pieces::ScanSource;

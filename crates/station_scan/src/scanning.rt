@@ -1,5 +1,6 @@
 //! The command `scan` on a station.
-ghost use Rattle.{std.specs.Prelude.{◌≤◌, ◌⊎◌, ℕ, List, IsErrOf, OnOk}, base_file.specs.Base.Base, disk_io.specs.{Device.Failed, Disk.Honestly, Runs.ChangesNothing}};
+ghost use Rattle.std.specs.Prelude.{◌≤◌, ◌⊎◌, ℕ, List, IsErrOf, OnOk};
+ghost use Rattle.{base_file.specs.Base.Base, disk_io.specs.{Device.Failed, Disk.Honestly, Runs.ChangesNothing}};
 ghost use Rattle.{cmd_status.specs.Devices.output_of, station.specs.{Beneath.AreSettledByOwn, Opening.{AreFree, HaveFailed}, Running.{EndsSound, NeedsBase}}};
 ghost use Rattle.station_scan.specs.{Scanning.{IsScanFull, IsScanNotRun, IsTouched, ScansIn, ScansOnStore}, Publishing.{UnchangedExcept, KeepsStoreBut}};
 

@@ -1,5 +1,6 @@
 //! Where the packets of a scan go.
-ghost use Rattle.{std.specs.Prelude.{◌≡◌, ◌≤◌, All, IfErr, IfOk, OnOk, map}, disk_atomic.specs.StagingPaths.staging_path, echo_toss.specs.Counts.link_set};
+ghost use Rattle.std.specs.Prelude.{◌≡◌, ◌≤◌, All, IfErr, IfOk, OnOk, map};
+ghost use Rattle.{disk_atomic.specs.StagingPaths.staging_path, echo_toss.specs.Counts.link_set};
 ghost use Rattle.station_scan.specs.{Sending.{IsPlanned, IsSized, route_to, two_paths}, Stops.{IsUnplanned, most}};
 
 use crate::pieces::ScanSource;

@@ -1,5 +1,6 @@
 //! The staging files of packets at their end, before a commit.
-ghost use Rattle.{std.specs.Prelude.{◌≡◌, ◌≢◌, ℕ, List, true, false, All, IfOk, None, OnOk}, disk_io.specs.{Disk.{Honestly, IsIn}, Runs.HasCause}};
+ghost use Rattle.std.specs.Prelude.{◌≡◌, ◌≢◌, ℕ, List, true, false, All, IfOk, None, OnOk};
+ghost use Rattle.disk_io.specs.{Disk.{Honestly, IsIn}, Runs.HasCause};
 ghost use Rattle.disk_atomic.specs.{Changes.ChangesOnly, Outgoing.{ArePlaced, IsAtStaging, IsStaged, staged_in}};
 ghost use Rattle.station_scan.specs.Publishing.{AreOpen, AreStaged, IsTrial, IsTriedWith, IsWritten};
 

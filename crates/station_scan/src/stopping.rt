@@ -1,5 +1,6 @@
 //! A pass that stops removes its staging files.
-ghost use Rattle.{std.specs.Prelude.{◌≡◌, ◌<◌, ℕ, List, IfErr, IfOk, IsErrOf, None, OnOk}, base_file.specs.Base.Base, disk_io.specs.{Disk.Honestly, Runs.HasCause}};
+ghost use Rattle.std.specs.Prelude.{◌≡◌, ◌<◌, ℕ, List, IfErr, IfOk, IsErrOf, None, OnOk};
+ghost use Rattle.{base_file.specs.Base.Base, disk_io.specs.{Disk.Honestly, Runs.HasCause}};
 ghost use Rattle.{echo_toss.specs.Exports.OutgoingMessage as Sent, station.specs.Beneath.IsUsedAt, station_scan.specs.Writing.publish_stop};
 ghost use Rattle.station_scan.specs.{Passing.{AreCounted, CanSend, FitTo, HasPassed, IsStagingTo, IsTakenFor, StopsPassing}, Publishing.HasPublishCause};
 

@@ -1,5 +1,6 @@
 //! The staging files of packets grow by pieces.
-ghost use Rattle.{std.specs.Prelude.{All, OnOk}, disk_io.specs.{Disk.Honestly, Runs.HasCause}, disk_atomic.specs.Changes.ChangesOnly};
+ghost use Rattle.std.specs.Prelude.{All, OnOk};
+ghost use Rattle.{disk_io.specs.{Disk.Honestly, Runs.HasCause}, disk_atomic.specs.Changes.ChangesOnly};
 ghost use Rattle.{disk_atomic.specs.Outgoing.{ArePlaced, IsLonger, IsStagingOne}, station_scan.specs.Writing.IsOpen};
 
 use disk_atomic::{Outgoing, Pieces, append_each};

@@ -1,4 +1,5 @@
-ghost use Rattle.{std.specs.Prelude.{◌≡◌, IfOk}, disk_io.specs.Disk.Honestly, base_log.specs.{AtRest.{IsAtRest, IsStaged}, Names.{AreNames, folder_of}}};
+ghost use Rattle.std.specs.Prelude.{◌≡◌, IfOk};
+ghost use Rattle.{disk_io.specs.Disk.Honestly, base_log.specs.{AtRest.{IsAtRest, IsStaged}, Names.{AreNames, folder_of}}};
 ghost use Rattle.base_log.specs.Opening.{AreAlone};
 
 use base_log::{
