@@ -1,5 +1,6 @@
 -- The base file of the messages of a base folder.
-use Rattle.{std.specs.Prelude.{◌≡◌, ℕ, false}, disk_io.specs.Device.Failed, base_file.specs.{Base.Base, BaseFile.is_countable}}
+use Rattle.std.specs.Prelude.{◌≡◌, ℕ, false}
+use Rattle.{disk_io.specs.Device.Failed, base_file.specs.{Base.Base, BaseFile.is_countable}}
 use Rattle.{base_file.specs.declared.fault.BaseFault.BaseFault, base_store.specs.declared.store_error.StoreError.StoreError}
 use Rattle.{echo_filed.specs.Stored.{Stored, is_short_enough}, base_folder.specs.declared.send_error.SendError.SendError}
 use Rattle.base_file.specs.declared.fault.BaseFault.TheVariants as fault

@@ -1,5 +1,6 @@
 -- Why a command can't fetch a message of a base.
-use Rattle.{std.specs.Prelude.{◌≡◌, ◌⊎◌, ℕ, List}, disk_io.specs.Device.Failed, cmd_status.specs.declared.fault.Fault.{Fault, TheVariants.CannotUse}}
+use Rattle.std.specs.Prelude.{◌≡◌, ◌⊎◌, ℕ, List}
+use Rattle.{disk_io.specs.Device.Failed, cmd_status.specs.declared.fault.Fault.{Fault, TheVariants.CannotUse}}
 use Rattle.cmd_status.specs.Ended.{IsOutOfMemory}
 
 -- The base with this path cannot be used: a read of it failed in the call.

@@ -1,6 +1,7 @@
 -- Filling a base folder with messages.
 use Rattle.std.specs.Prelude.{◌≡◌, ◌≤◌, ◌<◌, ◌⊎◌, ℕ, ◌+◌, ◌/◌, Bool, List, [], false, length, take, Some, slice_get, Result, IfErr, IsErrOf, OnOk}
-use Rattle.{std.specs.List.{AllByRecursion, flat_map}, base_file.specs.{Base.{Base, IsBase, is_known}, Alone.MayStandAlone}}
+use Rattle.std.specs.List.{AllByRecursion, flat_map}
+use Rattle.base_file.specs.{Base.{Base, IsBase, is_known}, Alone.MayStandAlone}
 use Rattle.echo_filed.specs.{Filed.{Filed, key_of}, Stored.{IsStored, Stored, stored_bytes}, declared.stored.Version.TheVariants.Second}
 use Rattle.base_log.specs.{Moments.SameOutside, Names.log_of, Standing.{BaseBytes, Represents}, declared.log.CommitRecord.CommitRecord}
 use Rattle.{base_log.specs.declared.log.FolderIdentity.FolderIdentity, disk_io.specs.{Device.Failed, Disk.{DiskState, Files, Honestly, bytes_in}}}

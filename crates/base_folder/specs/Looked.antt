@@ -1,5 +1,6 @@
 -- A base folder after a look.
-use Rattle.{std.specs.Prelude.{◌≡◌, ◌≤◌, ◌<◌, ◌/◌, ℕ, Bool, List, length, take}, disk_io.specs.Disk.{DiskState, Files, bytes_in}, base_log.specs.Names.log_of}
+use Rattle.std.specs.Prelude.{◌≡◌, ◌≤◌, ◌<◌, ◌/◌, ℕ, Bool, List, length, take}
+use Rattle.{disk_io.specs.Disk.{DiskState, Files, bytes_in}, base_log.specs.Names.log_of}
 use Rattle.base_log.specs.{Standing.{BaseBytes, Represents}, Reading.{IsRead, ReadsAll}, declared.log.{End.End, Log.Log}}
 use Rattle.{base_folder_store.specs.{Opened.held_by, Vouched.{HasNone, IsVouched}, declared.folder.Folder.Folder}, base_folder.specs.OpenError.IsWrong}
 use Rattle.base_folder.specs.declared.{looking.LookedFolder.LookedFolder, open_error.OpenError.OpenError}

@@ -1,5 +1,6 @@
 -- Why a base folder is not read or opened.
-use Rattle.{std.specs.Prelude.{◌≡◌, ◌≤◌, ℕ, Bool, List, Result, IsErrOf}, base_store.specs.declared.store_error.StoreError.StoreError}
+use Rattle.std.specs.Prelude.{◌≡◌, ◌≤◌, ℕ, Bool, List, Result, IsErrOf}
+use Rattle.base_store.specs.declared.store_error.StoreError.{StoreError}
 use Rattle.{disk_io.specs.{Device.Failed, Disk.Files, declared.disk_error.DiskError.DiskError}, cmd_status.specs.declared.fault.Fault.Fault}
 use Rattle.base_folder.specs.{Wrong.{IsCutShort, IsNoFolder}, declared.open_error.OpenError.OpenError}
 use Rattle.base_file.specs.declared.fault.BaseFault.TheVariants as base

@@ -1,5 +1,6 @@
 -- The owner of a base folder: an address as a number.
-use Rattle.{std.specs.Prelude.{◌≡◌, ◌≢◌, ◌⊎◌, ℕ, ◌+◌, ◌*◌, ◌/◌, ◌%◌, Bool, List}, echo_addr.specs.declared.address.Address.Address}
+use Rattle.std.specs.Prelude.{◌≡◌, ◌≢◌, ◌⊎◌, ℕ, ◌+◌, ◌*◌, ◌/◌, ◌%◌, Bool, List}
+use Rattle.echo_addr.specs.declared.address.Address.{Address}
 use Rattle.{disk_io.specs.{Disk.{DiskState, Files, bytes_in}, Runs.ChangesNothing}, base_log.specs.{Names.log_of, declared.log.FolderIdentity.FolderIdentity}}
 use Rattle.{base_log.specs.declared.log.CommitRecord.CommitRecord, base_folder_store.specs.declared.folder.Folder.Folder, base_folder.specs.OpenError.IsWrong}
 use Rattle.base_folder.specs.{Wrong.IsRecordedBy, declared.open_error.OpenError.OpenError}

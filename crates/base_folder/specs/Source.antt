@@ -1,5 +1,6 @@
 -- A source of messages that are read one by one.
-use Rattle.{std.specs.Prelude.{◌≡◌, ◌<◌, ◌/◌, ℕ, List, length, OnOk, Option, Result}, disk_io.specs.Disk.{DiskState, Honestly}, base_file.specs.Base.Base}
+use Rattle.std.specs.Prelude.{◌≡◌, ◌<◌, ◌/◌, ℕ, List, length, OnOk, Option, Result}
+use Rattle.{disk_io.specs.Disk.{DiskState, Honestly}, base_file.specs.Base.Base}
 use Rattle.{echo_filed.specs.Filed.Filed, base_folder_store.specs.{Ahead.HasParts, Held.HoldsBase, Opened.held_by, Vouched.{IsLookedAt, IsVouched}}}
 use Rattle.base_folder_store.specs.declared.{folder.Folder.Folder, read_ahead.Buffers.Buffers}
 

@@ -1,5 +1,6 @@
 -- A base folder after opening it.
-use Rattle.{std.specs.Prelude.{◌≡◌, ◌<◌, ◌^◌, ℕ, List}, base_file.specs.Base.Base, base_log.specs.Moments.KeepsOutside}
+use Rattle.std.specs.Prelude.{◌≡◌, ◌<◌, ◌^◌, ℕ, List}
+use Rattle.{base_file.specs.Base.Base, base_log.specs.Moments.KeepsOutside}
 use Rattle.{disk_io.specs.{Disk.{DiskState, Honestly}, Runs.LeavesOnly}, echo_addr.specs.declared.address.Address.Address}
 use Rattle.base_folder_store.specs.{Held.{HoldsBase, RepresentsBase, RepresentsBaseOrWasLeft}, Opened.{committed_by, held_by, path_of}, State.IsUsable}
 use Rattle.{base_folder_store.specs.declared.folder.Folder.Folder, base_folder.specs.Ours.{HasGivenKey, number_of}}

@@ -1,5 +1,6 @@
 -- The answer of `check`.
-use Rattle.{std.specs.Prelude.{◌≡◌, ℕ, ◌↔◌, Bool, List, Option, None, Result}, cmd_status.specs.{Devices.Output, declared.fault.Fault.Fault}}
+use Rattle.std.specs.Prelude.{◌≡◌, ℕ, ◌↔◌, Bool, List, Option, None, Result}
+use Rattle.cmd_status.specs.{Devices.Output, declared.fault.Fault.Fault}
 use Rattle.cmd_status.specs.{declared.status.Status.{Status, TheVariants.{Good, Differs}}, Ended.Answers}
 use Rattle.{cmd_status.specs.Inputs.{AreLinkFiles, IsFirstFaultGiven, IsNodelistGiven}, echo_links.specs.Links.{LinkFile, upper}}
 use Rattle.{echo_nodelist.specs.declared.line.Line.Line, model_run.specs.{AnyState.NewMessagesAreInOrder, Tidy.Tidy}}

@@ -1,5 +1,6 @@
 -- The answer of `check --all`.
-use Rattle.{std.specs.Prelude.{◌≡◌, ◌↔◌, ◌+◌, ◌==◌, ℕ, Bool, List, [], ◌∷◌, ◌++◌, length, Option, None, Result, if◌then◌else◌}, cmd_status.specs.Devices.Output}
+use Rattle.std.specs.Prelude.{◌≡◌, ◌↔◌, ◌+◌, ◌==◌, ℕ, Bool, List, [], ◌∷◌, ◌++◌, length, Option, None, Result, if◌then◌else◌}
+use Rattle.cmd_status.specs.Devices.{Output}
 use Rattle.cmd_status.specs.{declared.{fault.Fault.Fault, status.Status.{Status, TheVariants.{Good, Differs}}}, Ended.Answers}
 use Rattle.{cmd_status.specs.Inputs.{AreLinkFiles, IsFirstFaultGiven, IsNodelistGiven}, echo_links.specs.Links.LinkFile}
 use Rattle.{echo_nodelist.specs.declared.line.Line.Line, model_run.specs.{Tidy.Tidy, AnyState.NewMessagesAreInOrder}}

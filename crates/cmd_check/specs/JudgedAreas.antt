@@ -1,6 +1,7 @@
 -- The lines of `check` on the areas of a net with supposed and left out systems.
 use Rattle.std.specs.Prelude.{◌≡◌, ℕ, ◌-◌, ◌&&◌, Bool, true, false, not, List, [], ◌∷◌, ◌++◌, codes, decimal, length, Option, Result}
-use Rattle.{std.specs.List.{count_by, flat_map, list_any}, echo_addr.specs.{declared.address.Address.Address, Address.address_text}}
+use Rattle.std.specs.List.{count_by, flat_map, list_any}
+use Rattle.echo_addr.specs.{declared.address.Address.Address, Address.address_text}
 use Rattle.{echo_charset.specs.Words.printed_word, echo_links.specs.Links.{LinkFile, has_area}, echo_nodelist.specs.declared.line.Line.Line}
 use Rattle.{cmd_status.specs.{Devices.Output, declared.fault.Fault.Fault, Ended.Answers}, cmd_check.specs.CheckingAll.{AreEachChecked, IsAreaChecked}}
 use Rattle.cmd_suppose.specs.{Assuming.{assumed_line, assumed_note, link_word}, Parts.AreCutOff}

@@ -1,5 +1,6 @@
 -- The answer of `picture`.
-use Rattle.{std.specs.Prelude.{◌≡◌, ℕ, ◌↔◌, List, [], Option, None, Result}, cmd_status.specs.{Devices.Output, declared.fault.Fault.Fault}}
+use Rattle.std.specs.Prelude.{◌≡◌, ℕ, ◌↔◌, List, [], Option, None, Result}
+use Rattle.cmd_status.specs.{Devices.Output, declared.fault.Fault.Fault}
 use Rattle.cmd_status.specs.{declared.status.Status.{Status, TheVariants.Good}, Ended.Answers, Inputs.{AreLinkFiles, IsFirstFaultGiven}}
 use Rattle.{echo_links.specs.Links.{LinkFile, upper}, model_run.specs.Tidy.Tidy, echo_net.specs.declared.drawing.{Crossing.Crossing, Drawing.Drawing}}
 use Rattle.{echo_net.specs.{declared.verdict.Verdict.Verdict, Drawn.IsDrawing}, cmd_check.specs.Checking.{IsCheckVerdict, verdict_status}}

@@ -1,5 +1,6 @@
 -- Moments by the calendar.
-use Rattle.{std.specs.Prelude.{◌≡◌, ℕ, ◌+◌, ◌*◌, ◌/◌, ◌%◌, ◌<◌, ◌+ℤ◌, ℤ, pos}, jiff_core.specs.Calendar.{IsCivilDate, days_from_civil}}
+use Rattle.std.specs.Prelude.{◌≡◌, ℕ, ◌+◌, ◌*◌, ◌/◌, ◌%◌, ◌<◌, ◌+ℤ◌, ℤ, pos}
+use Rattle.jiff_core.specs.Calendar.{IsCivilDate, days_from_civil}
 use Rattle.model_steps.specs.declared.stamp.Stamp.{Stamp}
 
 -- The seconds of a day, without leap seconds.

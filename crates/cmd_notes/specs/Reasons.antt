@@ -1,5 +1,6 @@
 -- The notes that say in words why a command stopped, or which files it made.
-use Rattle.{std.specs.Prelude.{ℕ, List, ◌++◌, codes, decimal}, echo_addr.specs.Address.address_text, echo_charset.specs.Words.printed_word}
+use Rattle.std.specs.Prelude.{ℕ, List, ◌++◌, codes, decimal}
+use Rattle.{echo_addr.specs.Address.address_text, echo_charset.specs.Words.printed_word}
 use Rattle.{echo_links.specs.declared.fault.LinkFault.LinkFault, echo_packet.specs.declared.fault.{Field.Field, PacketFault.PacketFault}}
 use Rattle.cmd_notes.specs.declared.reasons.{FaultyPacket.FaultyPacket, LongField.LongField, Misdelivered.Misdelivered, PacketPlace.PacketPlace}
 use Rattle.cmd_notes.specs.declared.reasons.{PathState.PathState, Reason.Reason, State.State, WordForm.WordForm, WrongLine.WrongLine, WrongWord.WrongWord}

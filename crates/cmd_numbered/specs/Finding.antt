@@ -1,6 +1,7 @@
 -- The message of a base with an id: the parts that a mail answering it takes, and whether it was posted here.
 use Rattle.std.specs.Prelude.{◌≡◌, ℕ, zero, suc, ◌&&◌, not, bytes_eq, Bool, false, List, ◌∷◌, codes, length, take, if◌then◌else◌, slice_get, Option, Some, None, is_some}
-use Rattle.{std.specs.{List.prefix_len, Option.option_map}, base_file.specs.Base.Base, echo_addr.specs.Entries.is_blank}
+use Rattle.std.specs.{List.prefix_len, Option.option_map}
+use Rattle.{base_file.specs.Base.Base, echo_addr.specs.Entries.is_blank}
 use Rattle.{echo_charset.specs.{declared.charset.Charset.{Charset, TheVariants.Cp437}, Charset.named}, echo_filed.specs.Filed.Filed}
 use Rattle.{echo_links.specs.Links.upper, echo_text.specs.Echo.{first_after, msgid_of}, cmd_numbered.specs.declared.finding.Answered.Answered}
 use Rattle.cmd_numbered.specs.declared.finding.PostedWords.{PostedWords}

@@ -1,5 +1,6 @@
 -- Files that a folder gets.
-use Rattle.{std.specs.Prelude.{◌≡◌, ⊤, List, ◌++◌, Option, Some, None}, cmd_status.specs.declared.status.Status.Status}
+use Rattle.std.specs.Prelude.{◌≡◌, ⊤, List, ◌++◌, Option, Some, None}
+use Rattle.cmd_status.specs.declared.status.Status.{Status}
 use Rattle.cmd_numbered.specs.declared.folder.MessageFile.{MessageFile}
 
 -- If the files of the folder are known, they are now these more, in this order.

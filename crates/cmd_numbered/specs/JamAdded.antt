@@ -1,6 +1,7 @@
 -- Messages of a base that are added to a JAM base: their choice, their numbers, and their bytes in its files.
 use Rattle.std.specs.Prelude.{◌≡◌, ℕ, zero, suc, ◌+◌, ◌&&◌, not, nat_lt, max, Bool, false, is_some, List, [], ◌∷◌, ◌++◌, length, if◌then◌else◌, slice_get, Option, Some, None}
-use Rattle.{std.specs.Io.KnownBytes.Appends, echo_filed.specs.Filed.Filed, echo_links.specs.Links.upper, echo_jam.specs.Fields.{body_of, cuts_of}}
+use Rattle.std.specs.Io.KnownBytes.{Appends}
+use Rattle.{echo_filed.specs.Filed.Filed, echo_links.specs.Links.upper, echo_jam.specs.Fields.{body_of, cuts_of}}
 use Rattle.{echo_jam.specs.{JamMessage.{entry_of, header_of}, Same.is_same, Unsent.has_id}, echo_text.specs.Echo.msgid_of, cmd_status.specs.Ended.IsOutOfMemory}
 use Rattle.{disk_io.specs.Device.Failed, base_file.specs.Base.Base, base_folder.specs.{Fetching.IsUnread, Source.SourceState}}
 use Rattle.cmd_numbered.specs.declared.{adding.{Adding.Adding, JamEnd.JamEnd, JamExport.JamExport}, jam_export_error.JamExportError.JamExportError}

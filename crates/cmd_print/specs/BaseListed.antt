@@ -1,6 +1,7 @@
 -- The lines of `list` for the messages of a base.
 use Rattle.std.specs.Prelude.{ℕ, ◌-◌, ◌&&◌, nat_le, Bool, true, false, List, [], ◌++◌, length, codes, decimal, if◌then◌else◌, slice_get, bytes_eq, Option, Some, None, is_some}
-use Rattle.{std.specs.List.{flat_map, range_with_len}, echo_addr.specs.{declared.address.Address.Address, Address.address_text}, echo_filed.specs.Filed.Filed}
+use Rattle.std.specs.List.{flat_map, range_with_len}
+use Rattle.{echo_addr.specs.{declared.address.Address.Address, Address.address_text}, echo_filed.specs.Filed.Filed}
 use Rattle.{echo_filed.specs.Stubs.is_stub, echo_text.specs.Echo.{EchoText, msgid_of}, echo_charset.specs.Escaped.escaped_line}
 use Rattle.{echo_export.specs.Label.without_zeros, cmd_print.specs.declared.list_form.ListForm.{ListForm, TheVariants.{Short, Whole}}}
 

@@ -1,6 +1,7 @@
 -- The lines of `nodelist`.
 use Rattle.std.specs.Prelude.{◌≡◌, ℕ, ◌+◌, Bool, true, false, List, [], ◌∷◌, ◌++◌, length, codes, decimal, slice_index_or, Option, Some, None}
-use Rattle.{std.specs.List.{count_by, flat_map, range_with_len}, echo_addr.specs.{declared.address.Address.Address, Address.address_text}}
+use Rattle.std.specs.List.{count_by, flat_map, range_with_len}
+use Rattle.echo_addr.specs.{declared.address.Address.Address, Address.address_text}
 use Rattle.echo_nodelist.specs.declared.{stated.CrcLine.{CrcLine, TheVariants.{Absent, Match, Mismatch}}, keyword.Keyword.{Keyword, TheVariants.Node}}
 use Rattle.echo_nodelist.specs.{declared.line.Line.{Line, TheVariants.{Note, Entry}}, Back.{Finds, address_at}, Line.keyword_text}
 use Rattle.{echo_charset.specs.Escaped.escaped_line, cmd_print.specs.Shown.zero_padded}

@@ -1,6 +1,7 @@
 -- A list of ids that is read: its first wrong line, and the words of its ids.
 use Rattle.std.specs.Prelude.{◌≡◌, ℕ, ◌+◌, ◌-◌, Bool, true, false, List, [], ◌∷◌, ◌++◌, ◌≤◌, codes, length, map, filter, if◌then◌else◌, bytes_eq, Option, Some, None, Result, Ok, Err, ◌⊎◌}
-use Rattle.{std.specs.List.{AllByRecursion, list_any, Sorted.IsPermutation}, echo_charset.specs.Escaped.escaped, echo_links.specs.LinkLines.file_lines}
+use Rattle.std.specs.List.{AllByRecursion, list_any, Sorted.IsPermutation}
+use Rattle.{echo_charset.specs.Escaped.escaped, echo_links.specs.LinkLines.file_lines}
 use Rattle.{cmd_status.specs.{declared.fault.Fault.{Fault, TheVariants.ListLine}, Ended.IsOutOfMemory}, cmd_repair.specs.declared.reading.Stage.Stage}
 use Rattle.cmd_repair.specs.{declared.reading.Stage.TheVariants.{Start, Ids, Ended, Wrong}, Ids.IsId}
 use Rattle.cmd_repair.specs.Words.{area_words, end_words, id_word, is_end_line, is_id_line, most_messages}

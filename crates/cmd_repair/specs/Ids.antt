@@ -1,6 +1,7 @@
 -- The ids of messages, and their printed words.
 use Rattle.std.specs.Prelude.{◌≡◌, ℕ, ◌+◌, ◌-◌, ◌*◌, ◌%◌, ◌==◌, ◌&&◌, not, nat_le, nat_lt, Bool, true, List, [], ◌∷◌, length, slice_index, if◌then◌else◌, bytes_eq, Option, Some, None}
-use Rattle.{std.specs.List.{cons_option, list_all}, echo_addr.specs.Entries.is_blank, echo_charset.specs.Escaped.escaped}
+use Rattle.std.specs.List.{cons_option, list_all}
+use Rattle.{echo_addr.specs.Entries.is_blank, echo_charset.specs.Escaped.escaped}
 
 -- A byte of a line in the text of a message.
 abbrev pub is_text_byte : ℕ → Bool

@@ -1,6 +1,7 @@
 -- What `list --ids` prints.
 use Rattle.std.specs.{Prelude.{◌≡◌, ℕ, Bool, List, [], ◌∷◌, length, map, filter, bytes_eq, Option, Some, None}, Cmp.Lexicographic.slice_cmp}
-use Rattle.{std.specs.{List.{filter_map, flat_map, Sorted.{IsPermutation, IsSorted}}, Ordering.nat_cmp}, base_file.specs.Base.Base}
+use Rattle.std.specs.{List.{filter_map, flat_map, Sorted.{IsPermutation, IsSorted}}, Ordering.nat_cmp}
+use Rattle.base_file.specs.Base.{Base}
 use Rattle.{echo_filed.specs.Filed.Filed, echo_text.specs.Echo.msgid_of, cmd_status.specs.declared.status.Status.{Status, TheVariants.Good}}
 use Rattle.cmd_repair.specs.Words.{ids_text}
 

@@ -1,6 +1,7 @@
 -- A packet of all messages of an area for one link.
 use Rattle.std.specs.Prelude.{◌≡◌, ◌⊎◌, ℕ, ◌<◌, ◌≤◌, ◌&&◌, not, Bool, true, false, List, [], ◌∷◌, ◌++◌, ◌+◌, codes, length, drop, map, filter, bytes_eq, Option, Some, None}
-use Rattle.{std.specs.{List.list_any, Io.KnownBytes.Appends}, base_file.specs.Base.Base, base_folder.specs.{Fetching.IsUnread, Source.SourceState}}
+use Rattle.std.specs.{List.list_any, Io.KnownBytes.Appends}
+use Rattle.{base_file.specs.Base.Base, base_folder.specs.{Fetching.IsUnread, Source.SourceState}}
 use Rattle.{disk_io.specs.Device.Failed, echo_addr.specs.{declared.address.Address.Address, Address.address_text}, echo_charset.specs.Escaped.escaped}
 use Rattle.{echo_filed.specs.Filed.Filed, echo_links.specs.Links.LinkFile, echo_packet.specs.{Message.{Message, messages_bytes}, Packet.packet_bytes}}
 use Rattle.{echo_text.specs.Echo.msgid_of, echo_toss.specs.declared.counting.CountedPacket.CountedPacket}

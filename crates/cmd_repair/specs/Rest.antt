@@ -1,5 +1,6 @@
 -- What a repair sends, in the terms of the model.
-use Rattle.{std.specs.{Prelude.{◌≡◌, ℕ, List, Option, Some}, Io.KnownBytes.Appends}, base_file.specs.Base.Base}
+use Rattle.std.specs.{Prelude.{◌≡◌, ℕ, List, Option, Some}, Io.KnownBytes.Appends}
+use Rattle.base_file.specs.Base.{Base}
 use Rattle.{echo_addr.specs.declared.address.Address.Address, echo_filed.specs.Filed.Filed, echo_links.specs.Links.LinkFile, echo_packet.specs.Header.AreBytes}
 use Rattle.{echo_packet.specs.Packet.packet_bytes, echo_text.specs.Echo.msgid_of, model_graph.specs.Walk.Among, model_run.specs.Repair.rest_packet}
 use Rattle.model_steps.specs.declared.{packet.Packet.Packet, stamp.Stamp.Stamp}

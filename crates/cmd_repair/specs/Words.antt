@@ -1,6 +1,7 @@
 -- The lines of a list of ids.
 use Rattle.std.specs.Prelude.{ℕ, ◌+◌, ◌-◌, ◌*◌, ◌&&◌, nat_le, nat_eq, Bool, List, ◌++◌, take, drop, codes, decimal, fold, bytes_eq, length, min, ◌^◌}
-use Rattle.{std.specs.List.{flat_map, prefix_len, starts_with}, echo_charset.specs.{Escaped.escaped_line, Words.printed_word}, cmd_repair.specs.Ids.is_id_word}
+use Rattle.std.specs.List.{flat_map, prefix_len, starts_with}
+use Rattle.{echo_charset.specs.{Escaped.escaped_line, Words.printed_word}, cmd_repair.specs.Ids.is_id_word}
 
 -- The first line of a list: its area, in upper case.
 abbrev pub area_words : List ℕ → List ℕ

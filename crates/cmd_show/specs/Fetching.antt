@@ -1,5 +1,6 @@
 -- The end of a command that reads messages one by one while it prints.
-use Rattle.{std.specs.Prelude.{◌≡◌, ◌⊎◌, ℕ, List, Result, Ok, Err}, base_folder.specs.Fetching.CannotRead, cmd_status.specs.declared.fault.Fault.Fault}
+use Rattle.std.specs.Prelude.{◌≡◌, ◌⊎◌, ℕ, List, Result, Ok, Err}
+use Rattle.{base_folder.specs.Fetching.CannotRead, cmd_status.specs.declared.fault.Fault.Fault}
 use Rattle.cmd_status.specs.{Devices.Output, Ended.{IsBegun, IsDone, Stops}}
 
 -- The command stops without a fault of the base: standard output failed, memory ran out, or a read failed.

@@ -1,5 +1,6 @@
 -- A link file judged as a whole.
-use Rattle.{std.specs.Prelude.{◌≡◌, ℕ, Bool, true, false, List, Ok, Err}, echo_links.specs.{declared.fault.LinkFault.LinkFault, LinkLines.LinksOf}}
+use Rattle.std.specs.Prelude.{◌≡◌, ℕ, Bool, true, false, List, Ok, Err}
+use Rattle.echo_links.specs.{declared.fault.LinkFault.LinkFault, LinkLines.LinksOf}
 use Rattle.cmd_show.specs.{declared.judged.Judged.{Judged, TheVariants.{Good, Faulty}}, FaultyLines.faults_of}
 use Rattle.echo_links.specs.declared.fault.LinkFault.TheVariants as fault
 

@@ -1,5 +1,6 @@
 -- The answer of `links`.
-use Rattle.{std.specs.{Prelude.{◌≡◌, Bool, List, is_none, if◌then◌else◌, Result}, List.list_all}, echo_links.specs.LinkLines.file_fault}
+use Rattle.std.specs.{Prelude.{◌≡◌, Bool, List, is_none, if◌then◌else◌, Result}, List.list_all}
+use Rattle.echo_links.specs.LinkLines.{file_fault}
 use Rattle.cmd_status.specs.{Devices.Output, declared.{fault.Fault.Fault, status.Status.{Status, TheVariants.{Good, Refused}}}, Ended.Answers}
 use Rattle.cmd_show.specs.{declared.linking.NamedFile.NamedFile, LinksShown.files_text}
 

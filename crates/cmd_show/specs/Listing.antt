@@ -1,5 +1,6 @@
 -- The answer of `list`.
-use Rattle.{std.specs.Prelude.{◌≡◌, ℕ, List, Option, option_map}, cmd_status.specs.declared.status.Status.{Status, TheVariants.Good}}
+use Rattle.std.specs.Prelude.{◌≡◌, ℕ, List, Option, option_map}
+use Rattle.cmd_status.specs.declared.status.Status.{Status, TheVariants.Good}
 use Rattle.{echo_links.specs.Links.upper, base_file.specs.Base.Base, cmd_print.specs.{declared.list_form.ListForm.ListForm, BaseListed.base_text}}
 
 -- These are the lines of a base in a form. The requested area may have letters of either case.

@@ -1,5 +1,6 @@
 -- The answer of `nodelist`.
-use Rattle.{std.specs.Prelude.{◌≡◌, ℕ, List, Option, Result}, echo_addr.specs.declared.address.Address.Address, cmd_status.specs.Devices.Output}
+use Rattle.std.specs.Prelude.{◌≡◌, ℕ, List, Option, Result}
+use Rattle.{echo_addr.specs.declared.address.Address.Address, cmd_status.specs.Devices.Output}
 use Rattle.cmd_status.specs.{declared.{fault.Fault.{Fault, TheVariants.Nodelist}, status.Status.{Status, TheVariants.{Good, Differs}}}, Ended.AnswersInPieces}
 use Rattle.echo_nodelist.specs.{declared.{stated.CrcLine.{CrcLine, TheVariants.Mismatch}, line.Line.Line, fault.NodeFault.NodeFault}, CrcLine.crc_line_of}
 use Rattle.{echo_nodelist.specs.Nodelist.{NodelistFaultOf, NodelistOf}, cmd_print.specs.Listed.Listed}

@@ -1,6 +1,7 @@
 -- The bytes that an input of `show` encodes, and the result of `show`.
 use Rattle.std.specs.Prelude.{◌≡◌, ℕ, ◌⊎◌, ◌++◌, Bool, true, List, [], Option, Result, Ok, Err, IsErr, Vec, length, filter, ◌≤◌, take, not, false, ◌||◌, ◌==◌}
-use Rattle.{std.specs.declared.alloc.Global.Global, cmd_status.specs.{Devices.Output, declared.fault.Fault.{Fault, TheVariants.{BadHex, OutOfMemory, Packet}}}}
+use Rattle.std.specs.declared.alloc.Global.{Global}
+use Rattle.cmd_status.specs.{Devices.Output, declared.fault.Fault.{Fault, TheVariants.{BadHex, OutOfMemory, Packet}}}
 use Rattle.cmd_status.specs.{declared.status.Status.{Status, TheVariants.Good}, Ended.{CannotPrint, PassesAll, IsOutOfMemory}, Limits.show_limits}
 use Rattle.{hex.specs.Hex.decode_of, echo_packet.specs.{declared.{header.Header.Header, fault.PacketFault.PacketFault}, Header.{IsHeader, header_bytes}}}
 use Rattle.echo_packet.specs.{Fault.FaultOf, Message.{AreMessages, Message, messages_bytes}, Reader.FrontFault, Packet.PacketOf}

@@ -1,5 +1,6 @@
 -- Lines that a command wrote.
-use Rattle.{std.specs.{Prelude.{ℕ, List, ◌++◌, Option}, Io.KnownBytes.Appends}, cmd_status.specs.Lines.{PassesOn, WritesFront}}
+use Rattle.std.specs.{Prelude.{ℕ, List, ◌++◌, Option}, Io.KnownBytes.Appends}
+use Rattle.cmd_status.specs.Lines.{PassesOn, WritesFront}
 
 -- Lines of this kind were written.
 pub record WritesLines (AreLines : List ℕ → Type 0) (old new : Option (List ℕ)) : Type 0 where

@@ -1,6 +1,7 @@
 -- An answer to a message of the base: the words that the message gives.
 use Rattle.std.specs.Prelude.{◌≡◌, ℕ, ◌-◌, ◌++◌, ◌==◌, ◌&&◌, not, nat_lt, Bool, codes, List, [], length, Option, Some, None, if◌then◌else◌, slice_index, take}
-use Rattle.{std.specs.Char.eq_ignore_ascii_case, echo_filed.specs.Filed.Filed, echo_packet.specs.Message.max_subject, echo_text.specs.Echo.msgid_of}
+use Rattle.std.specs.Char.{eq_ignore_ascii_case}
+use Rattle.{echo_filed.specs.Filed.Filed, echo_packet.specs.Message.max_subject, echo_text.specs.Echo.msgid_of}
 use Rattle.{model_steps.specs.ReplyIds.is_reply_id, cmd_store.specs.declared.{drafting.NewMessage.NewMessage, answering.Answer.Answer}}
 use Rattle.cmd_store.specs.declared.answering.ReplyFields.{ReplyFields}
 

@@ -1,5 +1,6 @@
 -- The end of a command on a store: its output, the base in the store, and the files after a crash.
-use Rattle.{std.specs.Prelude.{◌≡◌, ℕ, ◌⊎◌, Bool, true, false, List, Result, Ok, Err}, base_file.specs.Base.Base, disk_io.specs.Disk.{Files, Honestly}}
+use Rattle.std.specs.Prelude.{◌≡◌, ℕ, ◌⊎◌, Bool, true, false, List, Result, Ok, Err}
+use Rattle.{base_file.specs.Base.Base, disk_io.specs.Disk.{Files, Honestly}}
 use Rattle.{disk_io.specs.Runs.LeavesOnly, cmd_status.specs.{declared.fault.Fault.Fault, Devices.Output, Ended.{Answers, IsDone, IsOutOfMemory}}}
 use Rattle.base_store.specs.Store.{CommitsNothing, GoesOn, IsSameStore, KeepsOthers, KeepsOrCommits, LooksOn, MayCommit, SameOtherFiles, StoreState}
 use Rattle.cmd_store.specs.declared.command_error.CommandError.{CommandError, TheVariants.{Met, Store}}

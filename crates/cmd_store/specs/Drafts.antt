@@ -1,5 +1,6 @@
 -- The draft that the words and the body of `post` make, and why it is refused.
-use Rattle.{std.specs.Prelude.{ℕ, ◌==◌, List, [], ◌∷◌, ◌++◌, if◌then◌else◌, Option}, model_steps.specs.declared.{draft.Draft.Draft, fault.PostFault.PostFault}}
+use Rattle.std.specs.Prelude.{ℕ, ◌==◌, List, [], ◌∷◌, ◌++◌, if◌then◌else◌, Option}
+use Rattle.model_steps.specs.declared.{draft.Draft.Draft, fault.PostFault.PostFault}
 use Rattle.{model_steps.specs.{Posting.post_refusal, SystemState.SystemState}, cmd_store.specs.declared.drafting.NewMessage.NewMessage}
 
 -- The bytes of the draft for a byte of the body: 0A becomes 0D, or nothing after a 0D.

@@ -1,5 +1,6 @@
 -- A posting on a store, with the serial in its words or the first free one from there on.
-use Rattle.{std.specs.Prelude.{◌≡◌, ℕ, Bool, true, false, List, Some, None, Result, Ok, Err}, base_file.specs.Base.Base, echo_filed.specs.Filed.Filed}
+use Rattle.std.specs.Prelude.{◌≡◌, ℕ, Bool, true, false, List, Some, None, Result, Ok, Err}
+use Rattle.{base_file.specs.Base.Base, echo_filed.specs.Filed.Filed}
 use Rattle.{echo_links.specs.Links.LinkFile, cmd_status.specs.Devices.Output, model_steps.specs.{declared.draft.Draft.Draft, Posting.{post_refusal, posted}}}
 use Rattle.{model_steps.specs.SystemState.SystemState, base_store.specs.Store.{StoreState, with_message}}
 use Rattle.{echo_toss.specs.declared.step_error.PostStepError.PostStepError, cmd_store.specs.declared.drafting.NewMessage.NewMessage}

@@ -1,6 +1,7 @@
 -- The words and the body in a mail.
 use Rattle.std.specs.Prelude.{ℕ, ◌≡◌, ◌⊎◌, ◌||◌, List, [], codes, Bool, Option, Some, None, Result, Ok, Err, if◌then◌else◌, option_copied, unwrap_or}
-use Rattle.{std.specs.Option.option_or, echo_charset.specs.declared.charset.Charset.Charset, echo_mail.specs.declared.fault.MailFault.MailFault}
+use Rattle.std.specs.Option.{option_or}
+use Rattle.{echo_charset.specs.declared.charset.Charset.Charset, echo_mail.specs.declared.fault.MailFault.MailFault}
 use Rattle.{echo_mail.specs.{declared.mail.Mail.Mail, Area.area_in, Body.{text_of, value_in}, Exported.exported_id}, model_steps.specs.ReplyIds.is_reply_id}
 use Rattle.cmd_store.specs.declared.fault.LetterFault.TheVariants.{Memory, NoArea, NoFrom, NoSubject, NoTo}
 use Rattle.cmd_store.specs.{Written.{IsRefused, IsSaid, IsWritten, name_or, words_or}, declared.{fault.LetterFault.LetterFault, letter.Letter.Letter}}

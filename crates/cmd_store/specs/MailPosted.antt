@@ -1,5 +1,6 @@
 -- Posting a mail on a store.
-use Rattle.{std.specs.Prelude.{◌≡◌, List, ℕ, Result, Ok, Err}, base_file.specs.Base.Base, echo_links.specs.Links.LinkFile, echo_mail.specs.Mail.mail_in}
+use Rattle.std.specs.Prelude.{◌≡◌, List, ℕ, Result, Ok, Err}
+use Rattle.{base_file.specs.Base.Base, echo_links.specs.Links.LinkFile, echo_mail.specs.Mail.mail_in}
 use Rattle.{cmd_status.specs.Devices.Output, model_steps.specs.SystemState.SystemState, cmd_store.specs.declared.drafting.NewMessage.NewMessage}
 use Rattle.cmd_store.specs.{FreeSerial.{PostsAs, PostsAsOn}, declared.{command_error.CommandError.CommandError, fault.LetterFault.LetterFault}}
 use Rattle.cmd_store.specs.{declared.{letter.Letter.Letter, mailed.MailWords.MailWords, mail_posting.PostMail.PostMail}, Letter.LetterAnswers, Mailed.IsPosting}

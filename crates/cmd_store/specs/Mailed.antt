@@ -1,5 +1,6 @@
 -- The words that post a mail.
-use Rattle.{std.specs.Prelude.◌≡◌, cmd_store.specs.declared.{drafting.NewMessage.NewMessage, letter.Letter.Letter, mailed.MailWords.MailWords}}
+use Rattle.std.specs.Prelude.{◌≡◌}
+use Rattle.cmd_store.specs.declared.{drafting.NewMessage.NewMessage, letter.Letter.Letter, mailed.MailWords.MailWords}
 
 pub record IsPosting (letter : Letter) (asked : MailWords) (words : NewMessage) : Type 0 where
   pub tag : words.tag.now ≡ letter.tag

@@ -1,5 +1,6 @@
 -- Tossing a packet with notes into a store.
-use Rattle.{std.specs.{Prelude.{◌≡◌, ℕ, List, [], Option, Result, Vec}, declared.alloc.Global.Global}, echo_addr.specs.declared.address.Address.Address}
+use Rattle.std.specs.{Prelude.{◌≡◌, ℕ, List, [], Option, Result, Vec}, declared.alloc.Global.Global}
+use Rattle.echo_addr.specs.declared.address.Address.{Address}
 use Rattle.{base_file.specs.Base.Base, echo_links.specs.Links.LinkFile, echo_packet.specs.declared.limits.Limits.Limits, base_store.specs.Store.StoreState}
 use Rattle.echo_toss.specs.{PacketsIn.{HoldsUnlessFailed, messages_answer, packet_answer, state_in, stop_in}, declared.step_error.StoppedToss.StoppedToss}
 use Rattle.echo_toss.specs.{declared.{step_error.TossStepError.TossStepError, tally.Tally.Tally}, Messages.TossesMessages, PacketSteps.PacketStep}

@@ -1,5 +1,6 @@
 -- Tossing a packet with notes.
-use Rattle.{std.specs.Prelude.{◌≡◌, ℕ, ◌⊎◌, List, ◌++◌, Option, Result, Ok, Err}, echo_addr.specs.declared.address.Address.Address}
+use Rattle.std.specs.Prelude.{◌≡◌, ℕ, ◌⊎◌, List, ◌++◌, Option, Result, Ok, Err}
+use Rattle.echo_addr.specs.declared.address.Address.{Address}
 use Rattle.{echo_packet.specs.{declared.limits.Limits.Limits, Message.Message}, model_steps.specs.{SystemState.SystemState, Tossing.sender_of}}
 use Rattle.{echo_toss.specs.{declared.tally.Tally.Tally, Messages.HasTaken, PacketSteps.{HasTossedNone, TossFault, TossesSome}}, cmd_store.specs.Notes.notes_of}
 

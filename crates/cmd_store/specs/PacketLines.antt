@@ -1,5 +1,6 @@
 -- The names of packets, and their lines.
-use Rattle.{std.specs.Prelude.{ℕ, ◌==◌, List, ◌++◌, length, codes, decimal, if◌then◌else◌}, echo_addr.specs.declared.address.Address.Address}
+use Rattle.std.specs.Prelude.{ℕ, ◌==◌, List, ◌++◌, length, codes, decimal, if◌then◌else◌}
+use Rattle.echo_addr.specs.declared.address.Address.{Address}
 use Rattle.{echo_packet.specs.Packet.packet_bytes, model_steps.specs.{declared.packet.Packet.Packet, PacketFiles.PacketFile}}
 use Rattle.{echo_toss.specs.declared.counting.CountedPacket.CountedPacket, cmd_store.specs.Lines.{named_receiver, sent_line}}
 

@@ -1,5 +1,6 @@
 -- The output of `post`, and the base that it makes of the one in a store.
-use Rattle.{std.specs.Prelude.{◌≡◌, ℕ, List, Some, None, Result}, base_file.specs.Base.Base, echo_links.specs.Links.LinkFile}
+use Rattle.std.specs.Prelude.{◌≡◌, ℕ, List, Some, None, Result}
+use Rattle.{base_file.specs.Base.Base, echo_links.specs.Links.LinkFile}
 use Rattle.{cmd_status.specs.{declared.fault.Fault.{Fault, TheVariants.Post}, Devices.Output}, model_steps.specs.declared.fault.PostFault.PostFault}
 use Rattle.{model_steps.specs.{Posting.posted, SystemState.SystemState}, base_store.specs.Store.with_message, echo_text.specs.Ids.id_of}
 use Rattle.{echo_toss.specs.PacketsIn.state_in, cmd_store.specs.{declared.drafting.NewMessage.NewMessage, Lines.posted_line}}

@@ -1,5 +1,6 @@
 -- The output of `purge`, and the base that it makes of the one in a store.
-use Rattle.{std.specs.Prelude.{◌≡◌, ℕ, ◌⊎◌, List, Result}, base_file.specs.Base.Base, cmd_status.specs.Devices.Output, model_steps.specs.Purging.changed}
+use Rattle.std.specs.Prelude.{◌≡◌, ℕ, ◌⊎◌, List, Result}
+use Rattle.{base_file.specs.Base.Base, cmd_status.specs.Devices.Output, model_steps.specs.Purging.changed}
 use Rattle.{base_store.specs.Store.purged, cmd_store.specs.{Lines.purged_line, declared.command_error.CommandError.CommandError}}
 use Rattle.cmd_store.specs.Answered.{AnswersAndCommits, RefusesNone}
 

@@ -1,5 +1,6 @@
 -- An answer to a message in a store.
-use Rattle.{std.specs.Prelude.{◌≡◌, ℕ, ◌⊎◌, List, Option, Some, None, slice_get, Result, Ok, Err}, base_file.specs.Base.Base, echo_filed.specs.Filed.Filed}
+use Rattle.std.specs.Prelude.{◌≡◌, ℕ, ◌⊎◌, List, Option, Some, None, slice_get, Result, Ok, Err}
+use Rattle.{base_file.specs.Base.Base, echo_filed.specs.Filed.Filed}
 use Rattle.{echo_links.specs.Links.LinkFile, cmd_status.specs.{declared.fault.Fault.TheVariants.BadNumber, Devices.Output, Ended.IsOutOfMemory}}
 use Rattle.{model_steps.specs.SystemState.SystemState, cmd_store.specs.declared.{drafting.NewMessage.NewMessage, answering.Answer.Answer}}
 use Rattle.cmd_store.specs.{declared.answering.ReplyFields.ReplyFields, AnswerWords.{IsFound, IsReply}, Answered.StopsFirst}

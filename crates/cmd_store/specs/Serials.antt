@@ -1,5 +1,6 @@
 -- A posting that needs a serial.
-use Rattle.{std.specs.{Prelude.{◌≡◌, ℕ, ◌⊎◌, ◌+◌, ◌-◌, ◌%◌, ◌^◌, ◌<◌, Bool, true, false, List}, List.list_any}, echo_text.specs.Ids.id_of}
+use Rattle.std.specs.{Prelude.{◌≡◌, ℕ, ◌⊎◌, ◌+◌, ◌-◌, ◌%◌, ◌^◌, ◌<◌, Bool, true, false, List}, List.list_any}
+use Rattle.echo_text.specs.Ids.{id_of}
 use Rattle.{echo_filed.specs.Filed.{Filed, has_id}, echo_links.specs.Links.LinkFile, cmd_store.specs.declared.drafting.NewMessage.NewMessage}
 
 -- A message of the base has the id that the system gives with this serial.

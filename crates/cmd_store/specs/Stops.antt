@@ -1,5 +1,6 @@
 -- Why a command on a store stopped.
-use Rattle.{std.specs.Prelude.{◌≡◌, ℕ, List, Result, Ok, Err}, base_file.specs.declared.fault.BaseFault.TheVariants.TooMany}
+use Rattle.std.specs.Prelude.{◌≡◌, ℕ, List, Result, Ok, Err}
+use Rattle.base_file.specs.declared.fault.BaseFault.TheVariants.{TooMany}
 use Rattle.cmd_status.specs.{declared.fault.Fault.{Fault, TheVariants.{Base, OutOfMemory, Post}}, Ended.IsCannotUse}
 use Rattle.{base_store.specs.declared.store_error.StoreError.StoreError, echo_toss.specs.declared.step_error.PostStepError.PostStepError}
 use Rattle.cmd_store.specs.declared.command_error.CommandError.{CommandError}

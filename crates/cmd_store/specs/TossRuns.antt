@@ -1,5 +1,6 @@
 -- The effect of `toss` on its packet files, and its output.
-use Rattle.{std.specs.{Prelude.{◌≡◌, ◌⊎◌, List, [], ◌∷◌, Option, Some, None, Ok, Err}, Io.KnownBytes.Appends}, disk_io.specs.Device.Failed}
+use Rattle.std.specs.{Prelude.{◌≡◌, ◌⊎◌, List, [], ◌∷◌, Option, Some, None, Ok, Err}, Io.KnownBytes.Appends}
+use Rattle.disk_io.specs.Device.{Failed}
 use Rattle.{echo_packet.specs.declared.limits.Limits.Limits, cmd_status.specs.{Devices.{Device, Output}, declared.fault.Fault.Fault, Ended.PassesAll}}
 use Rattle.{cmd_status.specs.Lines.WritesFront, model_steps.specs.SystemState.SystemState, cmd_store.specs.{Coming.{Coming, Opens}, TossedPacket.TossRun}}
 

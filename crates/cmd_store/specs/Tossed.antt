@@ -1,5 +1,6 @@
 -- The effect of `toss` on its packet files, its output, and the base that it makes of the one in a store.
-use Rattle.{std.specs.{Prelude.{◌≡◌, ◌⊎◌, ◌++◌, ℕ, Bool, List, Option, Some, None, OnOk, Result, Ok, Err}, Io.KnownBytes.Appends}, base_file.specs.Base.Base}
+use Rattle.std.specs.{Prelude.{◌≡◌, ◌⊎◌, ◌++◌, ℕ, Bool, List, Option, Some, None, OnOk, Result, Ok, Err}, Io.KnownBytes.Appends}
+use Rattle.base_file.specs.Base.{Base}
 use Rattle.{echo_links.specs.Links.LinkFile, echo_packet.specs.declared.limits.Limits.Limits, cmd_status.specs.declared.fault.Fault.Fault}
 use Rattle.cmd_status.specs.{declared.fault.Fault.TheVariants.TossMemory, Devices.{Device, Output}, Ended.{CannotPrint, PassesAll}, Lines.WritesFront}
 use Rattle.{base_store.specs.{Store.StoreState, declared.store_error.StoreError.StoreError}, echo_toss.specs.declared.step_error.StoppedToss.StoppedToss}

@@ -1,4 +1,4 @@
-ghost use Rattle.std.specs.Prelude.◌≡◌;
+ghost use Rattle.std.specs.Prelude.{◌≡◌};
 ghost use Rattle.{cmd_status.specs.declared.fault.Fault.TheVariants.OutOfMemory, cmd_store.specs.Stops.{IsReportedAs, post_stop}};
 ghost use Rattle.cmd_store.specs.declared.command_error.CommandError.TheVariants as stop;
 

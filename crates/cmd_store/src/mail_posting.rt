@@ -1,4 +1,4 @@
-ghost use Rattle.std.specs.Prelude.false;
+ghost use Rattle.std.specs.Prelude.{false};
 ghost use Rattle.{echo_toss.specs.PacketsIn.state_in, cmd_store.specs.{Bounded.AddsMailed, MailPosted.{Mails, MailsOn, ReadsMail}}};
 
 use crate::fault::LetterFault;

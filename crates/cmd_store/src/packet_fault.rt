@@ -1,4 +1,4 @@
-ghost use Rattle.std.specs.Prelude.◌≡◌;
+ghost use Rattle.std.specs.Prelude.{◌≡◌};
 ghost use Rattle.cmd_store.specs.TossedPacket.fault_of;
 
 use cmd_status::Fault;

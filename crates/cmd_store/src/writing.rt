@@ -1,5 +1,5 @@
 //! What a mail says, in the bytes of a charset.
-ghost use Rattle.std.specs.Prelude.option_copied;
+ghost use Rattle.std.specs.Prelude.{option_copied};
 ghost use Rattle.cmd_store.specs.Written.{IsSaid, IsWritten, name_or, words_or};
 
 use crate::fault::LetterFault;

@@ -1,5 +1,6 @@
 -- The lines of assumed systems and of links.
-use Rattle.{std.specs.Prelude.{ℕ, List, ◌++◌, codes}, echo_addr.specs.{declared.address.Address.Address, Address.address_text}}
+use Rattle.std.specs.Prelude.{ℕ, List, ◌++◌, codes}
+use Rattle.echo_addr.specs.{declared.address.Address.Address, Address.address_text}
 
 -- A link as a word of the AREA line, after a blank.
 abbrev pub link_word : Address → List ℕ

@@ -1,6 +1,7 @@
 -- The parts of an area: systems that are joined by links that both ends list.
 use Rattle.std.specs.Prelude.{◌≡◌, ◌<◌, ◌≤◌, ◌==◌, ◌&&◌, ◌⊎◌, ◌↔◌, ℕ, Bool, true, IsTrue, if◌then◌else◌, List, [], ◌∷◌, Contains, length, slice_index, slice_index_or}
-use Rattle.{std.specs.List.remove, echo_addr.specs.declared.address.Address.Address, echo_links.specs.Links.LinkFile, echo_filed.specs.Sets.address_before}
+use Rattle.std.specs.List.{remove}
+use Rattle.{echo_addr.specs.declared.address.Address.Address, echo_links.specs.Links.LinkFile, echo_filed.specs.Sets.address_before}
 use Rattle.{model_graph.specs.{Rows.IsAscending, Walk.{IsAt, Reaches}}, model_run.specs.Tidy.{Carries, lists}, echo_net.specs.declared.link.Link.Link}
 use Rattle.echo_net.specs.{Faults.AreInOrder, Rows.system_at}
 

@@ -1,6 +1,7 @@
 -- Systems without a link file: which are supposed, and the link files that they are judged to have.
 use Rattle.std.specs.Prelude.{◌≡◌, ◌↔◌, ℕ, Bool, true, false, IsTrue, List, [], ◌∷◌, ◌++◌, Contains, codes, filter, map}
-use Rattle.{std.specs.List.{AllByRecursion, AllZip, flat_map, list_any, Sorted.IsStrictlySortedBy}, echo_addr.specs.declared.address.Address.Address}
+use Rattle.std.specs.List.{AllByRecursion, AllZip, flat_map, list_any, Sorted.IsStrictlySortedBy}
+use Rattle.echo_addr.specs.declared.address.Address.{Address}
 use Rattle.{echo_addr.specs.Address.address_text, echo_links.specs.{Found.address_order, Links.{Area, LinkFile, has_area}}, model_run.specs.Tidy.lists}
 use Rattle.{echo_net.specs.{Faults.IsCarried, Nets.systems}, cmd_status.specs.Inputs.AreLinkFiles, cmd_suppose.specs.{Assuming.link_word, Listings.is_listed}}
 

@@ -1,5 +1,6 @@
 -- The harm in a run, by the id of one message and the address of a system.
-use Rattle.{std.specs.Prelude.{◌≡◌, ◌≢◌, ◌≤◌, ℕ, IsTrue, List, Some}, echo_addr.specs.declared.address.Address.Address, model_graph.specs.Walk.Among}
+use Rattle.std.specs.Prelude.{◌≡◌, ◌≢◌, ◌≤◌, ℕ, IsTrue, List, Some}
+use Rattle.{echo_addr.specs.declared.address.Address.Address, model_graph.specs.Walk.Among}
 use Rattle.{echo_links.specs.Links.{LinkFile, has_area}, echo_filed.specs.{declared.key.Key.TheVariants.ById, Filed.{Filed, key_of}}}
 use Rattle.{model_steps.specs.declared.packet.Packet.Packet, model_run.specs.Orderly.{IsPosting, Settled, copies, count, sent_count}}
 use Rattle.{model_run.specs.Run.{Run, System, destination, nth}, cmd_why.specs.declared.shown.Harm.Harm}

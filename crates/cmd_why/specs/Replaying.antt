@@ -1,5 +1,6 @@
 -- The answer of `replay`.
-use Rattle.{std.specs.Prelude.{◌≡◌, ℕ, ◌⊎◌, List, length, map, Option, Some, None, Result, Ok, Err}, cmd_status.specs.Devices.Output}
+use Rattle.std.specs.Prelude.{◌≡◌, ℕ, ◌⊎◌, List, length, map, Option, Some, None, Result, Ok, Err}
+use Rattle.cmd_status.specs.Devices.{Output}
 use Rattle.cmd_status.specs.{declared.{fault.Fault.{Fault, TheVariants.ScriptLine}, status.Status.{Status, TheVariants.Good}}, Ended.Answers}
 use Rattle.{cmd_status.specs.Inputs.{AreLinkFiles, IsLinkFault}, echo_links.specs.Links.LinkFile, model_run.specs.{declared.event.Event.Event, Event.run_event}}
 use Rattle.{model_run.specs.Run.{Run, System, run_of}, model_replay.specs.{declared.script.ScriptFault.TheVariants.Line, Script.ScriptOf}}

@@ -1,5 +1,6 @@
 -- One posting and the moves after it, as events of a run.
-use Rattle.{std.specs.Prelude.{ℕ, List, ◌∷◌, map}, echo_links.specs.Links.LinkFile, model_run.specs.{Event.{RunEvent, Delivery, Scanning}, Run.{Run, run_of}}}
+use Rattle.std.specs.Prelude.{ℕ, List, ◌∷◌, map}
+use Rattle.{echo_links.specs.Links.LinkFile, model_run.specs.{Event.{RunEvent, Delivery, Scanning}, Run.{Run, run_of}}}
 use Rattle.{model_run.specs.Postings.{trial_moment, trial_posting}, model_plan.specs.declared.plan.Move.{Move, TheVariants.{Deliver, Scan}}}
 
 -- A move as an event of a run. Each scan has the timestamp of the posting.

@@ -1,5 +1,6 @@
 -- A net of stations and a run of systems that agree.
-use Rattle.{std.specs.Prelude.{◌≡◌, ◌≢◌, ◌⊎◌, ℕ, List, [], ◌∷◌, ◌++◌, map, length, None, Ok}, echo_addr.specs.declared.address.Address.Address}
+use Rattle.std.specs.Prelude.{◌≡◌, ◌≢◌, ◌⊎◌, ℕ, List, [], ◌∷◌, ◌++◌, map, length, None, Ok}
+use Rattle.echo_addr.specs.declared.address.Address.{Address}
 use Rattle.{model_graph.specs.Walk.{Among, Different}, echo_packet.specs.{Packet.PacketOf, declared.limits.Limits.Limits}, echo_links.specs.Links.LinkFile}
 use Rattle.{echo_links.specs.LinkLines.LinksOf, echo_filed.specs.Filed.Filed, base_file.specs.Base.{Base, IsBase}}
 use Rattle.{model_steps.specs.declared.packet.Packet.Packet, model_run.specs.Event.{Delivery, PartDelivery, Posting, Purging, RunEvent, Scanning}}

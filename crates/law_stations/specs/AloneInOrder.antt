@@ -1,5 +1,6 @@
 -- The promise about one station, for any bytes that it received.
-use Rattle.{std.specs.Prelude.{◌≡◌, ℕ, ◌⊎◌, ◌<◌, ◌≤◌, false, List, [], ◌∷◌, ◌++◌, drop, take, None, Ok, Some}, echo_addr.specs.declared.address.Address.Address}
+use Rattle.std.specs.Prelude.{◌≡◌, ℕ, ◌⊎◌, ◌<◌, ◌≤◌, false, List, [], ◌∷◌, ◌++◌, drop, take, None, Ok, Some}
+use Rattle.echo_addr.specs.declared.address.Address.{Address}
 use Rattle.{model_graph.specs.Walk.Among, echo_packet.specs.{declared.{header.Header.Header, limits.Limits.Limits}, Message.Message, Packet.PacketOf}}
 use Rattle.{echo_text.specs.Refusal.text_refusal, echo_links.specs.{Links.LinkFile, LinkLines.LinksOf}, base_file.specs.Base.IsBase}
 use Rattle.{echo_filed.specs.{declared.key.Key.Key, Filed.{Filed, key_of}, Stubs.{is_stub, stub_of}}, model_steps.specs.declared.packet.Packet.Packet}

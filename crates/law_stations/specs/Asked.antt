@@ -1,5 +1,6 @@
 -- The contract of a command at a station, as a statement about the steps of a net.
-use Rattle.{std.specs.Prelude.{◌≡◌, ℕ, Bool, List, Option, Some, None, Result, Ok}, base_file.specs.Base.Base, disk_io.specs.Disk.DiskState}
+use Rattle.std.specs.Prelude.{◌≡◌, ℕ, Bool, List, Option, Some, None, Result, Ok}
+use Rattle.{base_file.specs.Base.Base, disk_io.specs.Disk.DiskState}
 use Rattle.cmd_store.specs.declared.{drafting.NewMessage.NewMessage, answering.Answer.Answer, letter.Letter.Letter, mailed.MailWords.MailWords}
 use Rattle.{cmd_store.specs.declared.command_error.CommandError.CommandError, cmd_status.specs.declared.fault.Fault.Fault, station.specs.Place.Place}
 use Rattle.law_stations.specs.{Commands.Command, Kinds.{IsPurge, IsToss}, Disks.Disks, DiskKinds.{IsMail, IsPostAs, IsReplyAs}, Neighbours.IsKeptOn}

@@ -1,5 +1,6 @@
 -- The staging files of a station's stopped scans can be finished.
-use Rattle.{std.specs.Prelude.ℕ, law_stations.specs.{Disks.{Disks, HasCursor}, Stopping.{EndsSome, HasNoneStaged}}}
+use Rattle.std.specs.Prelude.{ℕ}
+use Rattle.law_stations.specs.{Disks.{Disks, HasCursor}, Stopping.{EndsSome, HasNoneStaged}}
 
 -- This many steps of a scan finish all of them.
 pub record CanEnd (i : ℕ) (d : Disks) : Type 0 where

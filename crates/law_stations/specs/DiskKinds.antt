@@ -1,5 +1,6 @@
 -- The command events that a command may be, if that depends on the base.
-use Rattle.{std.specs.Prelude.{◌≡◌, ℕ, Bool, true, false, List, Some, slice_get}, base_file.specs.Base.Base, echo_filed.specs.Filed.Filed}
+use Rattle.std.specs.Prelude.{◌≡◌, ℕ, Bool, true, false, List, Some, slice_get}
+use Rattle.{base_file.specs.Base.Base, echo_filed.specs.Filed.Filed}
 use Rattle.cmd_store.specs.{declared.{drafting.NewMessage.NewMessage, answering.Answer.Answer, letter.Letter.Letter}, AnswerWords.IsReply}
 use Rattle.{cmd_store.specs.{declared.mailed.MailWords.MailWords, Mailed.IsPosting}, law_stations.specs.{Commands.Command, Kinds.{IsPost, IsPostWith}}}
 

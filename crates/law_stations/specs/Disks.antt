@@ -1,5 +1,6 @@
 -- The disks of stations with commands that may be stopped: packet files under their names, and staging files.
-use Rattle.{std.specs.Prelude.{◌≡◌, ℕ, Bool, true, false, List, [], ◌∷◌, ◌++◌, map, Some}, model_run.specs.Run.nth}
+use Rattle.std.specs.Prelude.{◌≡◌, ℕ, Bool, true, false, List, [], ◌∷◌, ◌++◌, map, Some}
+use Rattle.model_run.specs.Run.{nth}
 use Rattle.law_stations.specs.Nets.{Net, Station, first_net}
 
 -- A staging file of a packet: the station that wrote it, the number in its name, its bytes, and whether the

@@ -1,5 +1,6 @@
 -- The promise about a net, for any commands.
-use Rattle.{std.specs.Prelude.{◌≡◌, ℕ, ◌⊎◌, ◌≤◌, List, map, take, Some, Ok}, cmd_status.specs.Inputs.AreLinkFiles, model_graph.specs.Walk.{Among, Different}}
+use Rattle.std.specs.Prelude.{◌≡◌, ℕ, ◌⊎◌, ◌≤◌, List, map, take, Some, Ok}
+use Rattle.{cmd_status.specs.Inputs.AreLinkFiles, model_graph.specs.Walk.{Among, Different}}
 use Rattle.{echo_packet.specs.{Packet.PacketOf, declared.limits.Limits.Limits}, echo_links.specs.{Links.LinkFile, LinkLines.LinksOf}}
 use Rattle.{base_file.specs.Base.IsBase, echo_filed.specs.{declared.key.Key.Key, Filed.{Filed, key_of}, Stubs.stub_of}}
 use Rattle.{model_steps.specs.declared.packet.Packet.Packet, model_run.specs.{Orderly.{SameContent, count}, Run.nth}, law_stations.specs.Agreement.file_address}

@@ -1,5 +1,6 @@
 -- Kinds of commands; the command may depend on the base.
-use Rattle.{std.specs.Prelude.{◌≡◌, ℕ, List}, cmd_store.specs.{declared.drafting.NewMessage.NewMessage, Serials.with_serial}}
+use Rattle.std.specs.Prelude.{◌≡◌, ℕ, List}
+use Rattle.cmd_store.specs.{declared.drafting.NewMessage.NewMessage, Serials.with_serial}
 use Rattle.law_stations.specs.Commands.{Command, Post, Purge, Toss}
 
 -- The posting of these words.

@@ -1,5 +1,6 @@
 -- One station that gets any bytes as packet files.
-use Rattle.{std.specs.Prelude.{◌≡◌, ℕ, ◌⊎◌, ◌+◌, ◌-◌, List, [], ◌∷◌, ◌++◌, length, take, Option, Some, None, Ok}, base_file.specs.Base.Base}
+use Rattle.std.specs.Prelude.{◌≡◌, ℕ, ◌⊎◌, ◌+◌, ◌-◌, List, [], ◌∷◌, ◌++◌, length, take, Option, Some, None, Ok}
+use Rattle.base_file.specs.Base.{Base}
 use Rattle.{echo_links.specs.{Links.LinkFile, LinkLines.LinksOf}, model_steps.specs.declared.stamp.Stamp.Stamp, cmd_status.specs.declared.fault.Fault.Fault}
 use Rattle.cmd_store.specs.{declared.drafting.NewMessage.NewMessage, Coming.{Coming, Fails, Holds, Unknown}}
 use Rattle.law_stations.specs.{Commands.{Posts, Purges, Scans, TossesAll}, Nets.{Net, Station, first_net, with_left}}

@@ -1,5 +1,6 @@
 -- Other stations on the same disk.
-use Rattle.{std.specs.Prelude.{◌≡◌, ◌≢◌, ℕ, List}, base_file.specs.Base.Base, disk_io.specs.Disk.{DiskState, Files}, model_run.specs.Run.nth}
+use Rattle.std.specs.Prelude.{◌≡◌, ◌≢◌, ℕ, List}
+use Rattle.{base_file.specs.Base.Base, disk_io.specs.Disk.{DiskState, Files}, model_run.specs.Run.nth}
 use Rattle.{station.specs.Place.Place, law_stations.specs.{Commands.CommandEvent, Disks.Disks, Stopping.MayHappen}}
 use Rattle.law_stations.specs.OnDisks.{IsStationAt, LeavesElsewhere, ShowsStation}
 

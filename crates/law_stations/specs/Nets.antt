@@ -1,5 +1,6 @@
 -- Nets of stations, and the packet files between them.
-use Rattle.{std.specs.Prelude.{ℕ, List, [], ◌∷◌, ◌++◌, map}, base_file.specs.Base.Base, echo_filed.specs.Filed.Filed, model_run.specs.Run.{change, with_index}}
+use Rattle.std.specs.Prelude.{ℕ, List, [], ◌∷◌, ◌++◌, map}
+use Rattle.{base_file.specs.Base.Base, echo_filed.specs.Filed.Filed, model_run.specs.Run.{change, with_index}}
 use Rattle.model_steps.specs.PacketFiles.{PacketFile}
 
 -- The items of two lists are so, pair by pair.

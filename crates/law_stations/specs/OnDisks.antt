@@ -1,5 +1,6 @@
 -- A link file and a base on a disk as those of a station in a net, for every kind of base.
-use Rattle.{std.specs.Prelude.{◌≡◌, ◌⊎◌, ℕ, List, Option, Some, Result, Ok, Err}, base_file.specs.Base.Base, disk_io.specs.Disk.{DiskState, Files}}
+use Rattle.std.specs.Prelude.{◌≡◌, ◌⊎◌, ℕ, List, Option, Some, Result, Ok, Err}
+use Rattle.{base_file.specs.Base.Base, disk_io.specs.Disk.{DiskState, Files}}
 use Rattle.{echo_links.specs.Links.LinkFile, model_run.specs.Run.nth, station.specs.{Links.AreLinks, Place.{KeepsElsewhere, Place, SameElsewhere}}}
 use Rattle.{cmd_status.specs.declared.fault.Fault.Fault, cmd_store.specs.{Coming.Coming, declared.command_error.CommandError.{CommandError, TheVariants.Met}}}
 use Rattle.law_stations.specs.{Commands.{Command, IsPacketAt, whole_of}, Kinds.IsToss, Nets.{Paired, Station, with_indexes}, Disks.Disks}

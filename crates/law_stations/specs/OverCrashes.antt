@@ -1,5 +1,6 @@
 -- The promise about the disks of a net, for any stops of its commands.
-use Rattle.{std.specs.Prelude.{◌≡◌, ◌⊎◌, ◌<◌, ℕ, false, List, [], map, Some}, cmd_status.specs.Inputs.AreLinkFiles, model_graph.specs.Walk.{Among, Different}}
+use Rattle.std.specs.Prelude.{◌≡◌, ◌⊎◌, ◌<◌, ℕ, false, List, [], map, Some}
+use Rattle.{cmd_status.specs.Inputs.AreLinkFiles, model_graph.specs.Walk.{Among, Different}}
 use Rattle.{echo_links.specs.Links.LinkFile, model_run.specs.Run.nth, law_stations.specs.Commands.{Command, CommandEvent, Happen, Post, Purge, Scan, Toss}}
 use Rattle.law_stations.specs.{InOrder.IsSound, Agreement.file_address, Nets.{Net, Paired, first_net}, Disks.{StagingFile, Disks, HasCursor, first_disks}}
 use Rattle.law_stations.specs.Stopping.{MayHappenAll}

@@ -1,5 +1,6 @@
 -- The packets of a net as files in the folder of a station.
-use Rattle.{std.specs.Prelude.{◌≡◌, ◌⊎◌, ◌<◌, ◌≤◌, ℕ, false, List, ◌++◌, Some, None, Ok}, model_graph.specs.Walk.Among, disk_io.specs.Disk.{DiskState, Files}}
+use Rattle.std.specs.Prelude.{◌≡◌, ◌⊎◌, ◌<◌, ◌≤◌, ℕ, false, List, ◌++◌, Some, None, Ok}
+use Rattle.{model_graph.specs.Walk.Among, disk_io.specs.Disk.{DiskState, Files}}
 use Rattle.{disk_atomic.specs.{ListStaged.IsNumbered, StagingPaths.{dotted, staging_path}}, echo_links.specs.{Links.LinkFile, LinkLines.LinksOf}}
 use Rattle.{station.specs.Place.Place, station_scan.specs.{Publishing.IsOnDisk, Sending.{IsOffOwn, two_paths}}, law_stations.specs.Disks.{Disks, StagingFile}}
 use Rattle.law_stations.specs.Nets.{Station}

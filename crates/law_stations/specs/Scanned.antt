@@ -1,5 +1,6 @@
 -- The contracts of a scan and of a toss that ended well, as statements about the steps of a net.
-use Rattle.{std.specs.Prelude.{◌≡◌, ◌⊎◌, ℕ, List, Option, None, Result, Ok}, base_file.specs.Base.Base, disk_io.specs.Disk.{DiskState, Files}}
+use Rattle.std.specs.Prelude.{◌≡◌, ◌⊎◌, ℕ, List, Option, None, Result, Ok}
+use Rattle.{base_file.specs.Base.Base, disk_io.specs.Disk.{DiskState, Files}}
 use Rattle.{cmd_status.specs.declared.fault.Fault.Fault, model_steps.specs.declared.stamp.Stamp.Stamp, cmd_store.specs.Coming.Coming}
 use Rattle.{cmd_store.specs.declared.command_error.CommandError.CommandError, station.specs.Place.Place, law_stations.specs.Steps.{HasEnded, IsAllOnDisk}}
 use Rattle.{station_scan.specs.declared.scan_error.ScanError.ScanError, law_stations.specs.{Commands.{Command, Scan, whole_of}, Kinds.IsToss}}

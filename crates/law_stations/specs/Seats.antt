@@ -1,5 +1,6 @@
 -- Stations of a net, each on a disk; several may share one.
-use Rattle.{std.specs.Prelude.{◌≡◌, ◌≢◌, ◌⊎◌, ◌++◌, ℕ, List, Some}, base_file.specs.Base.Base, disk_io.specs.Disk.{DiskState, Files}, model_run.specs.Run.nth}
+use Rattle.std.specs.Prelude.{◌≡◌, ◌≢◌, ◌⊎◌, ◌++◌, ℕ, List, Some}
+use Rattle.{base_file.specs.Base.Base, disk_io.specs.Disk.{DiskState, Files}, model_run.specs.Run.nth}
 use Rattle.{station.specs.Place.Place, law_stations.specs.{Disks.Disks, Neighbours.{IsApart, IsKeptOn}, OnDisks.{IsStationAt, ShowsStation}}}
 use Rattle.law_stations.specs.PacketNames.{ShowsFolder}
 

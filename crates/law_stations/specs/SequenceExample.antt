@@ -1,6 +1,7 @@
 -- A sequence of steps at two stations: a post, a scan that a crash cuts after its commit, another crash before the next command, and a toss
 -- of the packet at the other station.
-use Rattle.{std.specs.Prelude.{◌≡◌, ◌⊎◌, ℕ, List, [], ◌∷◌, bytes_eq, if◌then◌else◌, Some, None}, base_file.specs.Base.Base, base_store.specs.Store.all_scanned}
+use Rattle.std.specs.Prelude.{◌≡◌, ◌⊎◌, ℕ, List, [], ◌∷◌, bytes_eq, if◌then◌else◌, Some, None}
+use Rattle.{base_file.specs.Base.Base, base_store.specs.Store.all_scanned}
 use Rattle.{cmd_store.specs.declared.drafting.NewMessage.NewMessage, disk_io.specs.Disk.{DiskState, Files}, model_run.specs.Run.nth}
 use Rattle.{model_steps.specs.{PacketFiles.PacketFile, declared.stamp.Stamp.Stamp}, station.specs.Place.Place}
 use Rattle.law_stations.specs.{Commands.{Post, Posts, Scan, Scans, Toss, Tosses}, Nets.{Net, empty_base, first_net}, OverCrashes.disks_of}

@@ -1,5 +1,6 @@
 -- The packets of a net as files that a disk shows.
-use Rattle.{std.specs.Prelude.{◌≡◌, ◌≤◌, ◌⊎◌, ℕ, Bool, false, List, length, Option, Some, None}, disk_io.specs.Disk.Files, model_run.specs.Run.nth}
+use Rattle.std.specs.Prelude.{◌≡◌, ◌≤◌, ◌⊎◌, ℕ, Bool, false, List, length, Option, Some, None}
+use Rattle.{disk_io.specs.Disk.Files, model_run.specs.Run.nth}
 use Rattle.station.specs.PacketsOnDisk.{most_held}
 
 -- The file is the packet with the index, and small enough to be held in memory.

@@ -1,5 +1,6 @@
 -- Steps at stations: commands that end or that a crash cuts, crashes between commands, and changes by others.
-use Rattle.{std.specs.Prelude.{◌≡◌, ℕ, List, [], ◌∷◌, Option, Some, None}, disk_io.specs.Disk.DiskState, model_run.specs.Run.{change, nth}}
+use Rattle.std.specs.Prelude.{◌≡◌, ℕ, List, [], ◌∷◌, Option, Some, None}
+use Rattle.{disk_io.specs.Disk.DiskState, model_run.specs.Run.{change, nth}}
 use Rattle.{station.specs.Place.Place, law_stations.specs.{Commands.{Command, CommandEvent}, Disks.Disks, Stopping.PartialEffect}}
 use Rattle.law_stations.specs.{OnDisks.{LeavesElsewhere, ShowsStation}, PacketNames.IsFolderIn, Seats.{Seat, RepresentsSeat, reach}}
 

@@ -1,5 +1,6 @@
 -- The disk of a store is used for files that do not belong to the store.
-use Rattle.{std.specs.Prelude.{◌≡◌, ℕ, List}, base_file.specs.Base.Base, disk_io.specs.Disk.Files, disk_atomic.specs.Changes.ChangesOnly}
+use Rattle.std.specs.Prelude.{◌≡◌, ℕ, List}
+use Rattle.{base_file.specs.Base.Base, disk_io.specs.Disk.Files, disk_atomic.specs.Changes.ChangesOnly}
 use Rattle.base_store.specs.Store.{IsSameStore, StoreState}
 
 -- Only the store's own files decide whether files hold a base.

@@ -1,5 +1,6 @@
 -- The link file of a station.
-use Rattle.{std.specs.Prelude.{◌≡◌, ◌⊎◌, ℕ, List, Some, Ok, Err}, disk_io.specs.Disk.DiskState, echo_links.specs.{LinkLines.LinksOf, Links.LinkFile}}
+use Rattle.std.specs.Prelude.{◌≡◌, ◌⊎◌, ℕ, List, Some, Ok, Err}
+use Rattle.{disk_io.specs.Disk.DiskState, echo_links.specs.{LinkLines.LinksOf, Links.LinkFile}}
 use Rattle.{echo_links.specs.declared.fault.LinkFault.LinkFault, station.specs.Faults.LinksUnread, cmd_status.specs.declared.fault.Fault.Fault}
 use Rattle.cmd_status.specs.declared.fault.Fault.TheVariants.{Link}
 use Rattle.echo_links.specs.declared.fault.LinkFault.TheVariants as link

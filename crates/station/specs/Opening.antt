@@ -1,5 +1,6 @@
 -- The opening of a station as a store.
-use Rattle.{std.specs.Prelude.{◌≡◌, ◌≤◌, ◌⊎◌, ℕ, List, Option, None}, base_file.specs.Base.Base, disk_io.specs.{Device.Failed, Disk.{DiskState, Honestly}}}
+use Rattle.std.specs.Prelude.{◌≡◌, ◌≤◌, ◌⊎◌, ℕ, List, Option, None}
+use Rattle.{base_file.specs.Base.Base, disk_io.specs.{Device.Failed, Disk.{DiskState, Honestly}}}
 use Rattle.{disk_io.specs.Runs.LeavesOnly, echo_links.specs.Links.LinkFile, cmd_status.specs.declared.fault.Fault.Fault, base_store.specs.Store.StoreState}
 use Rattle.station.specs.Place.{IsOfPlace, KeepsElsewhere, Place, RepresentsOrWasLeft}
 

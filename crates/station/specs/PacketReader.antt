@@ -1,5 +1,6 @@
 -- The state of a packet file's reader.
-use Rattle.{std.specs.Prelude.{ℕ, List, Option, Some}, station.specs.declared.packet_reader.PacketSource.{PacketSource, TheVariants.{Held, Streamed}}}
+use Rattle.std.specs.Prelude.{ℕ, List, Option, Some}
+use Rattle.station.specs.declared.packet_reader.PacketSource.{PacketSource, TheVariants.{Held, Streamed}}
 
 -- The bytes left to read, if they are known.
 abbrev pub held_remaining : {R : Type 0} → (R → Option (List ℕ)) → PacketSource R → Option (List ℕ)

@@ -1,5 +1,6 @@
 -- The packet files of `toss` on a disk.
-use Rattle.{std.specs.Prelude.{ℕ, Bool, true, false, List, length, Option, Some, None, if◌then◌else◌, nat_lt}, disk_io.specs.Disk.Files}
+use Rattle.std.specs.Prelude.{ℕ, Bool, true, false, List, length, Option, Some, None, if◌then◌else◌, nat_lt}
+use Rattle.disk_io.specs.Disk.{Files}
 use Rattle.cmd_store.specs.Coming.{Coming, Fails, Holds, Unknown}
 
 -- The most bytes of a packet file that is held in memory.

@@ -1,5 +1,6 @@
 -- The files of a station's base.
-use Rattle.{std.specs.Prelude.{◌≡◌, ◌⊎◌, ◌↔◌, ℕ, List}, base_file.specs.Base.Base, disk_io.specs.Disk.{DiskState, Files}, base_store.specs.Store.StoreState}
+use Rattle.std.specs.Prelude.{◌≡◌, ◌⊎◌, ◌↔◌, ℕ, List}
+use Rattle.{base_file.specs.Base.Base, disk_io.specs.Disk.{DiskState, Files}, base_store.specs.Store.StoreState}
 
 -- Which files hold which base, and which paths are the station's own.
 pub record Place : Type 1 where

@@ -1,5 +1,6 @@
 -- A command is run on a station.
-use Rattle.{std.specs.Prelude.{◌≡◌, ◌⊎◌, Bool, Result, Err, IfErr, OnOk, IsErrOf}, base_file.specs.Base.Base, disk_io.specs.Disk.{DiskState, Files}}
+use Rattle.std.specs.Prelude.{◌≡◌, ◌⊎◌, Bool, Result, Err, IfErr, OnOk, IsErrOf}
+use Rattle.{base_file.specs.Base.Base, disk_io.specs.Disk.{DiskState, Files}}
 use Rattle.{disk_io.specs.Runs.{ChangesNothing, LeavesOnly}, echo_links.specs.Links.LinkFile, cmd_status.specs.{declared.fault.Fault.Fault, Devices.Output}}
 use Rattle.base_store.specs.{Store.StoreState, declared.store_error.StoreError.TheVariants.{Damaged, Device}}
 use Rattle.{cmd_store.specs.{declared.command_error.CommandError.{CommandError, TheVariants.{Met, Store}}, Bounded.IsPast}, echo_filed.specs.Filed.Filed}

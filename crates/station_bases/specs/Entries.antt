@@ -1,6 +1,7 @@
 -- A base file as entries: the place where each message begins, and a digest of its key.
 use Rattle.std.specs.Prelude.{◌≡◌, ◌≤◌, ◌⊎◌, ◌<◌, ◌+◌, ◌*◌, ◌/◌, ◌^◌, ℕ, ⊤, false, true, nat_lt, List, [], ◌∷◌, ◌++◌, length, take, drop, IsErrOf, IsSome, Result}
-use Rattle.{std.specs.List.flat_map, disk_io.specs.Disk.{DiskState, Honestly, bytes_in}, echo_filed.specs.Filed.Filed}
+use Rattle.std.specs.List.{flat_map}
+use Rattle.{disk_io.specs.Disk.{DiskState, Honestly, bytes_in}, echo_filed.specs.Filed.Filed}
 use Rattle.echo_filed.specs.{Stored.{is_short, is_short_enough, stored_as, stored_bytes}, declared.stored.Version.TheVariants.Second}
 use Rattle.{base_file.specs.{Base.Base, BaseFile.{head_bytes, is_countable, stored_from}}, base_folder_store.specs.Ahead.IsPartOf}
 use Rattle.base_store.specs.{Chains.AreChains, Keys.FolderRepresents, Sip.sip_digest, declared.store_error.StoreError.StoreError}

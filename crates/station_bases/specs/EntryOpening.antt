@@ -1,5 +1,6 @@
 -- The messages of a base file are judged one after another, and get their entries.
-use Rattle.{std.specs.Prelude.{◌≡◌, ◌≤◌, ℕ, ◌+◌, Bool, false, List, [], ◌++◌, length, map, take, drop}, disk_io.specs.Disk.{DiskState, Honestly, bytes_in}}
+use Rattle.std.specs.Prelude.{◌≡◌, ◌≤◌, ℕ, ◌+◌, Bool, false, List, [], ◌++◌, length, map, take, drop}
+use Rattle.disk_io.specs.Disk.{DiskState, Honestly, bytes_in}
 use Rattle.{echo_filed.specs.{Stored.{Stored, message_in}, declared.{stored.Version.TheVariants.Second, key.Key.Key}}, base_file.specs.BaseFile.Begins}
 use Rattle.{base_file.specs.{Pieces.IsJudged, declared.base.loading.Head.Head}, base_store.specs.Keys.keys_from}
 use Rattle.station_bases.specs.{Entries.{AreIndexed, KeepForms, entry_digest}, declared.{entry_opening.Piece.Piece, entries.Entries.Entries}}

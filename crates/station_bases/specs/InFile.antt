@@ -1,5 +1,6 @@
 -- A base in a file.
-use Rattle.{std.specs.Prelude.{◌≡◌, ◌≢◌, ◌⊎◌, ◌/◌, ℕ, Bool, false, List, All, Option, length, slice_get}, base_file.specs.{Base.Base, BaseFile.is_countable}}
+use Rattle.std.specs.Prelude.{◌≡◌, ◌≢◌, ◌⊎◌, ◌/◌, ℕ, Bool, false, List, All, Option, length, slice_get}
+use Rattle.base_file.specs.{Base.Base, BaseFile.is_countable}
 use Rattle.{disk_io.specs.Disk.{DiskState, Files, bytes_in}, echo_filed.specs.Filed.Filed, disk_atomic.specs.{Changes.DifferAt, StagingPaths.staging_path}}
 use Rattle.{cmd_status.specs.Inputs.IsBaseGiven, base_store.specs.Store.StoreState, station_bases.specs.Entries.{CanFetch, HasRoomFor, HoldEntries}}
 use Rattle.station_bases.specs.declared.held.Held.{Held, TheVariants.{Apart, Whole}}

@@ -1,5 +1,6 @@
 -- A base in a folder.
-use Rattle.{std.specs.Prelude.{◌⊎◌, ℕ, Bool, List}, echo_addr.specs.declared.address.Address.Address, base_folder.specs.Ours.IsOfOther}
+use Rattle.std.specs.Prelude.{◌⊎◌, ℕ, Bool, List}
+use Rattle.{echo_addr.specs.declared.address.Address.Address, base_folder.specs.Ours.IsOfOther}
 use Rattle.{disk_io.specs.Disk.{DiskState, IsIn}, base_folder_store.specs.Held.RepresentsBase, station_bases.specs.Opening.{IsLockedOut, IsShut}}
 use Rattle.{echo_links.specs.Links.LinkFile, station.specs.{Links.AreLinks, Place.Place}, cmd_status.specs.declared.fault.Fault.Fault}
 

@@ -1,5 +1,6 @@
 -- A station with its base in a folder; its link file and its folder are locked.
-use Rattle.{std.specs.Prelude.{◌≡◌, ◌⊎◌, ◌↔◌, ℕ, Bool, List}, echo_addr.specs.declared.address.Address.Address, base_file.specs.Base.Base}
+use Rattle.std.specs.Prelude.{◌≡◌, ◌⊎◌, ◌↔◌, ℕ, Bool, List}
+use Rattle.{echo_addr.specs.declared.address.Address.Address, base_file.specs.Base.Base}
 use Rattle.base_folder.specs.{Ours.{IsLeftAlone, IsNotOurs, IsOfOther}, Wrong.IsSound, OpenError.IsReportedAs, declared.open_error.OpenError.OpenError}
 use Rattle.{base_folder.specs.Unopened.{HasOpened, HaveRoom, IsOpenedFor}, disk_io.specs.Disk.{DiskState, Files, Honestly, IsIn}}
 use Rattle.{disk_io.specs.Runs.{ChangesNothing, LeavesOnly}, base_log.specs.Moments.KeepsOutside}

@@ -1,5 +1,6 @@
 -- The reading of the files of a station with its base in a file.
-use Rattle.{std.specs.Prelude.{◌≤◌, ◌⊎◌, ℕ, List}, disk_io.specs.{Disk.DiskState, Runs.ChangesNothing}, station.specs.{Faults.FailsAt, Links.NoLinks}}
+use Rattle.std.specs.Prelude.{◌≤◌, ◌⊎◌, ℕ, List}
+use Rattle.{disk_io.specs.{Disk.DiskState, Runs.ChangesNothing}, station.specs.{Faults.FailsAt, Links.NoLinks}}
 use Rattle.{station.specs.Place.Place, cmd_status.specs.{declared.fault.Fault.Fault, Ended.IsOutOfMemory, Inputs.IsBaseFault}}
 use Rattle.station_bases.specs.InFile.{IsOfFile, RepresentsInFile}
 

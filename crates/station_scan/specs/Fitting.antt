@@ -1,5 +1,6 @@
 -- Packets with paths that belong to nothing else.
-use Rattle.{std.specs.Prelude.{◌⊎◌, ℕ, List, All, AllPairs, map}, disk_io.specs.Disk.Files, disk_atomic.specs.declared.outgoing.Outgoing.Outgoing}
+use Rattle.std.specs.Prelude.{◌⊎◌, ℕ, List, All, AllPairs, map}
+use Rattle.{disk_io.specs.Disk.Files, disk_atomic.specs.declared.outgoing.Outgoing.Outgoing}
 use Rattle.{disk_atomic.specs.StagingPaths.staging_path, model_steps.specs.PacketFiles.PacketFile}
 use Rattle.station_scan.specs.Sending.{HaveOtherPaths, IsFreeAt, IsNamed, IsOffOwn, file_paths}
 

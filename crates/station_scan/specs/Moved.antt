@@ -1,5 +1,6 @@
 -- A scan once its cursor was moved: its packets are sent out, or it stops while they are made.
-use Rattle.{std.specs.Prelude.{◌≡◌, ◌≤◌, ◌⊎◌, ◌<◌, ℕ, List, All, Result, Ok, Err, IfErr, IsErrOf, OnOk}, base_file.specs.Base.Base, disk_io.specs.Device.Failed}
+use Rattle.std.specs.Prelude.{◌≡◌, ◌≤◌, ◌⊎◌, ◌<◌, ℕ, List, All, Result, Ok, Err, IfErr, IsErrOf, OnOk}
+use Rattle.{base_file.specs.Base.Base, disk_io.specs.Device.Failed}
 use Rattle.{disk_io.specs.{Disk.{DiskState, Files, Honestly}, Runs.LeavesOnly, declared.disk_error.DiskError.DiskError}, disk_atomic.specs.Changes.DifferAt}
 use Rattle.{disk_atomic.specs.declared.placing_error.PlacingError.PlacingError, cmd_status.specs.Devices.Output, model_steps.specs.PacketFiles.PacketFile}
 use Rattle.{base_store.specs.Store.{HasStoreCause, LooksOn, StoreState, all_scanned}, cmd_store.specs.{Scanned.{ScansOn, files_scanned}, Stops.store_answer}}

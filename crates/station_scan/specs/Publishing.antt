@@ -1,5 +1,6 @@
 -- Packets and the commit of a store.
-use Rattle.{std.specs.Prelude.{◌≡◌, ◌≤◌, ◌⊎◌, ℕ, List, ◌++◌, length, Bool, true, false, All, None, Result, Ok, Err, IsErrOf}, base_file.specs.Base.Base}
+use Rattle.std.specs.Prelude.{◌≡◌, ◌≤◌, ◌⊎◌, ℕ, List, ◌++◌, length, Bool, true, false, All, None, Result, Ok, Err, IsErrOf}
+use Rattle.base_file.specs.Base.{Base}
 use Rattle.disk_io.specs.{Runs.{KeepsAlone, KeepsFlushed, KeepsNamed, LeavesOnly, OneStepOn}, Device.Failed, Disk.{DiskState, Files, Honestly, IsIn}}
 use Rattle.disk_io.specs.declared.disk_error.DiskError.{DiskError}
 use Rattle.disk_atomic.specs.Outgoing.{ArePlaced, CanGrowStaging, IsAtStaging, IsFilled, IsFree, IsStagingGone, IsOfOne, IsStaged, SendsBytes, staged_in}

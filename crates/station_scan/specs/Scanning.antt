@@ -1,5 +1,6 @@
 -- A scan is run on a station.
-use Rattle.{std.specs.Prelude.{◌≡◌, ◌⊎◌, ◌<◌, ℕ, List, length, map, None, Result, Ok, Err, All, IfErr, IsErrOf, OnOk}, base_file.specs.Base.Base}
+use Rattle.std.specs.Prelude.{◌≡◌, ◌⊎◌, ◌<◌, ℕ, List, length, map, None, Result, Ok, Err, All, IfErr, IsErrOf, OnOk}
+use Rattle.base_file.specs.Base.{Base}
 use Rattle.{disk_io.specs.{Disk.{DiskState, Files}, Runs.{LeavesOnly, OneStepOn}, declared.disk_error.DiskError.DiskError}, echo_links.specs.Links.LinkFile}
 use Rattle.disk_atomic.specs.{Changes.DifferAt, Finishing.{FinishesEach, IsOfLeft}, Trying.WasTried, declared.finishing.Left.Left}
 use Rattle.{disk_atomic.specs.StagingPaths.{dotted, staging_path}, cmd_status.specs.{declared.fault.Fault.Fault, Devices.Output}}

@@ -1,5 +1,6 @@
 -- The packets of a scan and the commit of a store.
-use Rattle.{std.specs.Prelude.{◌≡◌, ◌⊎◌, ℕ, List, length, All, None}, base_file.specs.Base.Base, disk_io.specs.Disk.{DiskState, Files, Honestly}}
+use Rattle.std.specs.Prelude.{◌≡◌, ◌⊎◌, ℕ, List, length, All, None}
+use Rattle.{base_file.specs.Base.Base, disk_io.specs.Disk.{DiskState, Files, Honestly}}
 use Rattle.{disk_io.specs.Runs.OneStepOn, disk_atomic.specs.{Changes.DifferAt, Trying.WasTried, StagingPaths.staging_path}}
 use Rattle.{model_steps.specs.PacketFiles.PacketFile, base_store.specs.Store.{Commits, StoreState}}
 use Rattle.station_scan.specs.{Sending.{HasBytes, IsAtItsPath, IsStagingOfPacket, IsFreeAt, IsStagingGone, IsStagingOn, IsOfPacket, IsWhole, IsWholeAlone}, Left.IsOfNameOff}

@@ -1,5 +1,6 @@
 -- Why a scan stopped.
-use Rattle.{std.specs.Prelude.{◌⊎◌, ◌<◌, ℕ, Result, Ok, Err}, cmd_store.specs.declared.command_error.CommandError.{CommandError, TheVariants.{Met, Store}}}
+use Rattle.std.specs.Prelude.{◌⊎◌, ◌<◌, ℕ, Result, Ok, Err}
+use Rattle.cmd_store.specs.declared.command_error.CommandError.{CommandError, TheVariants.{Met, Store}}
 use Rattle.station_scan.specs.declared.scan_error.ScanError.{ScanError, TheVariants.{Command, Placing, Staying, TooFar}}
 use Rattle.station_scan.specs.declared.publish_error.PublishError.{PublishError, TheVariants.{Base, Reading, Staging, Packets}}
 use Rattle.disk_io.specs.declared.disk_error.DiskError.TheVariants as disk

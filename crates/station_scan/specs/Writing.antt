@@ -1,5 +1,6 @@
 -- Packets in their staging files, and why a pass over the messages stops.
-use Rattle.{std.specs.Prelude.{◌≤◌, ℕ, [], All, Result, IsErrOf}, base_file.specs.Base.Base, disk_io.specs.{Device.Failed, Disk.{DiskState, Honestly}}}
+use Rattle.std.specs.Prelude.{◌≤◌, ℕ, [], All, Result, IsErrOf}
+use Rattle.{base_file.specs.Base.Base, disk_io.specs.{Device.Failed, Disk.{DiskState, Honestly}}}
 use Rattle.{disk_atomic.specs.Outgoing.ArePlaced, base_store.specs.Store.StoreState, station_scan.specs.Beneath.IsFullOnWay}
 use Rattle.station_scan.specs.{Publishing.{AreGoing, AreOpen, IsTrial, IsWritten}, declared.passing.PassStop.{PassStop, TheVariants.{Placing, Reading}}}
 use Rattle.station_scan.specs.declared.{publish_error.PublishError.{PublishError, TheVariants.{Packets, Reading as OfReading}}, writing.Batch.Batch}
