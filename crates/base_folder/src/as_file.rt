@@ -1,6 +1,6 @@
 //! The base file of messages that are read one by one, written one by one.
 ghost use Rattle.std.specs.{Prelude.{◌≡◌, ◌≤◌, ◌<◌, Some, slice_get, IfErr, IfOk, OnErr, OnOk}, Io.KnownBytes.Appends};
-ghost use Rattle.disk_io.specs.Device.Failed;
+ghost use Rattle.disk_io.specs.Device.{Failed};
 ghost use Rattle.{base_file.specs.{Base.Base, BaseFile.{head_bytes, saved_bytes, stored_at}}, echo_filed.specs.{Filed.Filed, Stored.{stored_as, stored_bytes}}};
 ghost use Rattle.{echo_filed.specs.declared.stored.Version.TheVariants.Second, cmd_status.specs.Lines.WritesFront};
 ghost use Rattle.base_folder.specs.{AsFile.{IsFileFault, IsMessageFault, IsSendFault, IsTooLong, file_cause}, Source.{AreLegible, LooksAt, ReadsLegibly}};

@@ -1,6 +1,6 @@
 //! Messages of which no two may have one key.
 ghost use Rattle.std.specs.Prelude.{◌≡◌, ◌<◌, ℕ, Some, slice_get, option_copied, option_map, IfOk, IsErrOf, IsTrue};
-ghost use Rattle.base_file.specs.Base.Base;
+ghost use Rattle.base_file.specs.Base.{Base};
 ghost use Rattle.{echo_filed.specs.Filed.key_of, base_folder_store.specs.Answers.{Answers, HasReadCause}, base_folder.specs.Source.LooksAt};
 
 use crate::source::MessageSource;

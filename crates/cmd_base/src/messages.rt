@@ -1,6 +1,6 @@
 //! The messages of a base of either kind, as one source.
 ghost use Rattle.std.specs.Prelude.{IfOk};
-ghost use Rattle.cmd_base.specs.EitherBase.either_state;
+ghost use Rattle.cmd_base.specs.EitherBase.{either_state};
 
 use crate::folders::{hash_state, is_folder, is_strange};
 use base_file::BaseFault;

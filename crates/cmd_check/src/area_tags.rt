@@ -1,6 +1,6 @@
 //! The tags of the areas that link files have.
 ghost use Rattle.std.specs.{Prelude.{◌≡◌, ◌||◌, ℕ, List, IfOk, OnOk, bytes_eq, map}, List.Sorted.IsStrictlySortedBy};
-ghost use Rattle.echo_links.specs.Links.has_area;
+ghost use Rattle.echo_links.specs.Links.{has_area};
 ghost use Rattle.cmd_check.specs.AreaTags.{AreAllTags, has_tag, tag_order};
 
 use echo_links::LinkFile;

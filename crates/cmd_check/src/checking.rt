@@ -1,6 +1,6 @@
 //! What `check` answers.
 ghost use Rattle.std.specs.Prelude.{◌≡◌, ℕ, List, None, Ok, OnOk, Option, option_copied};
-ghost use Rattle.cmd_status.specs.Devices.output_of;
+ghost use Rattle.cmd_status.specs.Devices.{output_of};
 ghost use Rattle.{cmd_status.specs.{declared.status.Status.TheVariants.Good, Inputs.{AreLinkFiles, IsNodelistGiven}}, echo_links.specs.Links.{LinkFile, upper}};
 ghost use Rattle.{model_run.specs.{Tidy.Tidy, AnyState.NewMessagesAreInOrder}, echo_net.specs.Faults.{IfNo, IsFirstFault}};
 ghost use Rattle.{cmd_check.specs.{Checking.{CheckAnswers, verdict_status}, Further.IsVerdictShown}, cmd_print.specs.Pushed.Pushes};

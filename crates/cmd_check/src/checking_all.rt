@@ -1,6 +1,6 @@
 //! What `check --all` answers.
 ghost use Rattle.std.specs.Prelude.{◌≡◌, ◌≤◌, List, Ok, IfOk, None, Option, ℕ, length, map, option_copied};
-ghost use Rattle.cmd_status.specs.Devices.output_of;
+ghost use Rattle.cmd_status.specs.Devices.{output_of};
 ghost use Rattle.{cmd_status.specs.{declared.status.Status.TheVariants.Good, Inputs.{AreLinkFiles, IsNodelistGiven}}, echo_links.specs.Links.LinkFile};
 ghost use Rattle.{model_run.specs.{Tidy.Tidy, AnyState.NewMessagesAreInOrder}, echo_net.specs.Faults.{IsCarried, IsSharedSystem}, cmd_print.specs.Pushed.Pushes};
 ghost use Rattle.cmd_check.specs.CheckingAll.{AreAreasChecked, CheckAllAnswers, IsAreaChecked, no_count, verdicts_status};

@@ -1,6 +1,6 @@
 //! Which messages are added to a JAM base, and what that adds.
 ghost use Rattle.std.specs.Prelude.{◌≡◌, ◌≤◌, ◌+◌, ◌++◌, ◌&&◌, ℕ, List, Option, [], IfErr, IfOk, OnErr, OnOk, length, option_copied};
-ghost use Rattle.base_file.specs.Base.Base;
+ghost use Rattle.base_file.specs.Base.{Base};
 ghost use Rattle.{base_folder.specs.{Fetching.IsUnread, Source.{AreLegible, LooksAt}}, cmd_status.specs.Lines.WritesFront, echo_jam.specs.Fields.body_of};
 ghost use Rattle.cmd_numbered.specs.JamAdded.{Added, HasAdded, HasBegun, IsJamExport, IsUnadded, IsUnsent, added_at, added_in, added_of, is_added, is_last_jam, is_written_there, jam_texts, nothing_added, resumed_jam, with_message};
 

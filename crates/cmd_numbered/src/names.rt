@@ -1,6 +1,6 @@
 //! The names of stored messages in a folder.
 ghost use Rattle.std.specs.Prelude.{◌≡◌, ◌-◌, IfOk};
-ghost use Rattle.echo_addr.specs.Digits.number_within;
+ghost use Rattle.echo_addr.specs.Digits.{number_within};
 ghost use Rattle.cmd_numbered.specs.Names.{ends_in_msg, front_of_name, is_left, name_of, number_of_name};
 
 use echo_addr::number;

@@ -1,6 +1,6 @@
 //! Which messages become files, and under which numbers.
 ghost use Rattle.std.specs.Prelude.{◌≡◌, ◌≤◌, ◌<◌, ◌∷◌, ◌+◌, ◌&&◌, [], IfErr, IfOk, OnErr, OnOk, length, option_copied, slice_get};
-ghost use Rattle.base_file.specs.Base.Base;
+ghost use Rattle.base_file.specs.Base.{Base};
 ghost use Rattle.{base_folder.specs.{Fetching.IsUnread, Source.{AreLegible, LooksAt, ReadsLegibly}}, echo_stored.specs.StoredMessage.stored_bytes};
 ghost use Rattle.cmd_numbered.specs.Numbered.{IsExport, IsMade, IsMadeFrom, IsUnexported, IsUnmade, before_numbers, behind_numbers, file_at, file_of, first_number, is_exported, is_last, is_purged, is_same_stored, resumed};
 ghost use Rattle.cmd_numbered.specs.{Folders.{Gets, IsRefused}, Reading.AnswersReading};

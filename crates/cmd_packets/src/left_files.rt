@@ -1,7 +1,7 @@
 //! Lists the packets that earlier scans left in staging files. The number in a name counts the messages scanned
 //! before. So it shows whether that scan moved the cursor.
 ghost use Rattle.std.specs.Prelude.{◌≡◌, IfOk, OnOk};
-ghost use Rattle.disk_atomic.specs.ListStaged.AreListed;
+ghost use Rattle.disk_atomic.specs.ListStaged.{AreListed};
 
 use disk_atomic::{ListStaged, StagedPacket};
 use disk_io::DiskError;

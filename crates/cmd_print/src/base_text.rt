@@ -1,6 +1,6 @@
 //! The lines of the messages of a base.
 ghost use Rattle.std.specs.{Prelude.{◌≡◌, ◌++◌, codes, decimal, OnOk}, List.flat_map};
-ghost use Rattle.echo_charset.specs.Escaped.escaped_line;
+ghost use Rattle.echo_charset.specs.Escaped.{escaped_line};
 ghost use Rattle.cmd_print.specs.BaseListed.{echo_text, fields_text, head_text, is_purged, mark_text, message_text, origin_text, total_text};
 ghost use Rattle.echo_text.specs.Lines as text_lines;
 

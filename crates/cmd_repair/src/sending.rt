@@ -1,6 +1,6 @@
 //! A packet of all messages of an area for one link: it is sent piece by piece.
 ghost use Rattle.std.specs.Prelude.{◌≡◌, ◌++◌, ◌∷◌, [], IfErr, IfOk, List, ℕ, OnOk, drop, option_copied};
-ghost use Rattle.base_file.specs.Base.Base;
+ghost use Rattle.base_file.specs.Base.{Base};
 ghost use Rattle.{echo_packet.specs.{Header.header_bytes, Message.{message_bytes, messages_bytes}}, echo_links.specs.Links.upper};
 ghost use Rattle.{model_steps.specs.Scanning.{copy_to, header_to}, cmd_status.specs.Lines.PassesOn};
 ghost use Rattle.cmd_repair.specs.Repair.{AreLegibleFrom, IsStopped, IsUndone, IsUnsent, SendsPacket, copies_at, counted_with_copies, is_named, is_sent, nothing_counted, nothing_line, sent_copies};

@@ -1,6 +1,6 @@
 //! The command `links`: link files one by one, and all that is wrong with each.
 ghost use Rattle.std.specs.{Prelude.{◌≡◌, ◌++◌, IfOk, OnOk}, List.list_all};
-ghost use Rattle.cmd_status.specs.Devices.output_of;
+ghost use Rattle.cmd_status.specs.Devices.{output_of};
 ghost use Rattle.cmd_show.specs.{Linking.{LinksAnswers, is_good_file, links_status}, LinksShown.{file_text, files_text}};
 
 use crate::links_text::{push_faults, push_good};

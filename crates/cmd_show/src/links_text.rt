@@ -1,6 +1,6 @@
 //! The lines of a link file by itself.
 ghost use Rattle.std.specs.{Prelude.{◌≡◌, ◌<◌, ◌++◌, IfOk, OnOk, Some, codes, decimal, slice_get}, List.flat_map};
-ghost use Rattle.echo_addr.specs.Address.address_text;
+ghost use Rattle.echo_addr.specs.Address.{address_text};
 ghost use Rattle.echo_links.specs.Links.{Area};
 ghost use Rattle.cmd_show.specs.LinksShown.{all_links, area_line, area_links, areas_text, fault_code, fault_number, faulty_text, good_line, in_quotes};
 

@@ -1,5 +1,5 @@
 ghost use Rattle.std.specs.{Prelude.{◌≡◌, [], OnOk, bytes_eq}, List.list_any};
-ghost use Rattle.cmd_show.specs.Before.HasTagAdded;
+ghost use Rattle.cmd_show.specs.Before.{HasTagAdded};
 
 use std::alloc::{AllocError, Global};
 use std::collections::BTreeSet;

@@ -1,7 +1,7 @@
 //! The commands that change the base of a station, by their words. They take the lock of its link file before they read it,
 //! and hold it until they end. They wait while another run holds it.
 ghost use Rattle.std.specs.Prelude.{◌≡◌, None, OnOk};
-ghost use Rattle.station.specs.Opening.AreFree;
+ghost use Rattle.station.specs.Opening.{AreFree};
 
 use crate::place::{Station, find_base, station_locks};
 use crate::posting::new_message;

@@ -1,6 +1,6 @@
 //! A station before it is opened: its locks, and the state of its base.
 ghost use Rattle.std.specs.Prelude.{OnOk};
-ghost use Rattle.station.specs.Opening.AreFree;
+ghost use Rattle.station.specs.Opening.{AreFree};
 
 use cmd_base::{BaseFiles, break_hard_links, drawn_key, is_folder, is_strange};
 use cmd_input::{BaseLock, LinkLock, folder_path};

@@ -1,6 +1,6 @@
 //! `toss` by its words.
 ghost use Rattle.std.specs.Prelude.{◌≡◌, None, OnOk};
-ghost use Rattle.station.specs.Opening.AreFree;
+ghost use Rattle.station.specs.Opening.{AreFree};
 
 use crate::place::{Station, find_base, station_locks};
 use crate::running::{Before, by_name, run_at_station};

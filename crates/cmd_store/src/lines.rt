@@ -1,6 +1,6 @@
 //! The lines of what `post`, `scan`, `purge` and `toss` did.
 ghost use Rattle.std.specs.Prelude.{◌≡◌, ◌+◌, ◌≤◌, ◌++◌, decimal, length, OnOk, vec_capacity, vec_len};
-ghost use Rattle.echo_text.specs.Ids.id_of;
+ghost use Rattle.echo_text.specs.Ids.{id_of};
 ghost use Rattle.cmd_store.specs.Lines.{HasTallyRoom, posted_line, purged_line, sent_line, tally_line};
 
 use echo_addr::Address;

@@ -1,6 +1,6 @@
 //! The line of a message that was not filed.
 ghost use Rattle.std.specs.Prelude.{◌≡◌, ◌++◌, codes, option_copied, OnOk, IfOk};
-ghost use Rattle.echo_text.specs.Echo.HasNoZero;
+ghost use Rattle.echo_text.specs.Echo.{HasNoZero};
 ghost use Rattle.cmd_store.specs.Notes.{area_said, id_said, note_line, outcome_word, text_said};
 
 use echo_charset::{push_escaped, written};

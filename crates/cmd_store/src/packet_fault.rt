@@ -1,5 +1,5 @@
 ghost use Rattle.std.specs.Prelude.{◌≡◌};
-ghost use Rattle.cmd_store.specs.TossedPacket.fault_of;
+ghost use Rattle.cmd_store.specs.TossedPacket.{fault_of};
 
 use cmd_status::Fault;
 use echo_toss::TossCause;

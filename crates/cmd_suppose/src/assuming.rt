@@ -1,6 +1,6 @@
 //! The lines of assumed systems and of links, and whether a file has an area.
 ghost use Rattle.std.specs.{Prelude.{◌≡◌, ◌++◌, OnOk}, List.{flat_map, list_any}};
-ghost use Rattle.echo_links.specs.Links.has_area;
+ghost use Rattle.echo_links.specs.Links.{has_area};
 ghost use Rattle.cmd_suppose.specs.Assuming.{assumed_line, assumed_note, link_word};
 
 use echo_addr::Address;

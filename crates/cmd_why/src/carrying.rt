@@ -1,7 +1,7 @@
 //! The packets by which the message of a harm reaches the system of the harm, and when these were made.
 
 ghost use Rattle.std.specs.Prelude.{◌≡◌, ◌++◌, IfOk, OnOk, Some, None, if◌then◌else◌, nat_lt, option_copied};
-ghost use Rattle.echo_filed.specs.declared.key.Key.TheVariants.ById;
+ghost use Rattle.echo_filed.specs.declared.key.Key.TheVariants.{ById};
 ghost use Rattle.{model_replay.specs.Worlds.{Fits, IsWorldOf, encoded}, model_run.specs.{Orderly.{copies, count, origin}, Run.{Run, nth}}};
 ghost use Rattle.model_steps.specs.declared.packet.Packet.{Packet};
 ghost use Rattle.cmd_why.specs.{Carrying.{crossing_at, crossings_from, found_crossings, shown_crossings, step_of, system_named}, Sources.files_of};

@@ -1,5 +1,5 @@
 ghost use Rattle.std.specs.Prelude.{IfOk, IfSome};
-ghost use Rattle.cmd_why.specs.Found.IsShown;
+ghost use Rattle.cmd_why.specs.Found.{IsShown};
 
 use crate::events::{SERIAL, events_of};
 use crate::judging::judge;

@@ -1,6 +1,6 @@
 //! The lines of a replayed net.
 ghost use Rattle.std.specs.{Prelude.{◌≡◌, ◌++◌, OnOk, Some, length, map, slice_get}, List.flat_map};
-ghost use Rattle.echo_links.specs.Links.Area;
+ghost use Rattle.echo_links.specs.Links.{Area};
 ghost use Rattle.{model_run.specs.Run.{Run, System, nth}, model_replay.specs.Worlds.IsWorldOf};
 ghost use Rattle.cmd_why.specs.Replayed.{area_state_line, area_counts_line, packets_line, replay_lines, settled_line, systems_from};
 

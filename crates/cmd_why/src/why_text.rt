@@ -1,6 +1,6 @@
 //! The lines of a run that does harm. They are a script.
 ghost use Rattle.std.specs.{Prelude.{◌≡◌, ◌++◌, codes, OnOk, option_copied}, List.flat_map};
-ghost use Rattle.echo_addr.specs.Address.address_text;
+ghost use Rattle.echo_addr.specs.Address.{address_text};
 ghost use Rattle.cmd_why.specs.declared.shown.Harm.TheVariants.{NeverSettles, SentAgain};
 ghost use Rattle.{cmd_why.specs.Whys.{AreWhyLines, found_lines, harm_line, move_line, post_line, shown_lines}, cmd_print.specs.{Checked.verdict_line, Pushed.Pushes}};
 

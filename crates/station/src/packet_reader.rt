@@ -1,6 +1,6 @@
 //! What reads a packet file: bytes that are held in memory, or another reader.
 ghost use Rattle.std.specs.{Prelude.{◌≡◌, OnOk, OnErr}, Io.{ReadsAtMost, KnownBytes.ReadConsumes}};
-ghost use Rattle.disk_io.specs.Device.Failed;
+ghost use Rattle.disk_io.specs.Device.{Failed};
 ghost use Rattle.station.specs.PacketReader.{held_failures, held_front, held_remaining};
 
 use crate::held_bytes::HeldBytes;

@@ -1,6 +1,6 @@
 //! The name of a system in paths of files.
 ghost use Rattle.std.specs.Prelude.{◌≡◌, ◌≢◌, All, IfOk};
-ghost use Rattle.disk_atomic.specs.StagingPaths.dotted;
+ghost use Rattle.disk_atomic.specs.StagingPaths.{dotted};
 
 use echo_addr::Address;
 use echo_links::LinkFile;

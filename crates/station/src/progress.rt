@@ -1,6 +1,6 @@
 //! The progress of a command: how far a base file is read.
 ghost use Rattle.std.specs.{Prelude.{◌≡◌, OnOk, OnErr}, Io.{ReadsAtMost, KnownBytes.ReadConsumes}};
-ghost use Rattle.disk_io.specs.Device.Failed;
+ghost use Rattle.disk_io.specs.Device.{Failed};
 
 use cmd_status::MessageProgress;
 use disk_io::{Failure, Source};

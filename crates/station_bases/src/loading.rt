@@ -1,6 +1,6 @@
 //! The link file of a station is read, and its base file is opened.
 ghost use Rattle.std.specs.Prelude.{◌≡◌, ◌≢◌, ◌⊎◌, ◌↔◌, All, IfErr, IfNone, IfOk, IfSome, IsSome, IsTrue, OnOk, Some, None};
-ghost use Rattle.disk_io.specs.Device.Failed;
+ghost use Rattle.disk_io.specs.Device.{Failed};
 ghost use Rattle.{disk_io.specs.{Disk.Honestly, Runs.{ChangesNothing, HasCause}}, station.specs.{Links.AreLinks, Faults.IsFaultAt}};
 ghost use Rattle.{cmd_status.specs.{Ended.IsOutOfMemory, Inputs.{IsBaseFault, IsBaseGiven}}, station_bases.specs.InFile.{IsReadAs, IsWithinReach, RepresentsInFile}};
 ghost use Rattle.station_bases.specs.Reading.{IsFileShut, IsSettled, IsUnreadFor, ReadsOnly};

@@ -1,6 +1,6 @@
 //! A base folder opened under the locks of a station.
 ghost use Rattle.std.specs.Prelude.{◌≡◌, ◌≤◌, ◌⊎◌, ℕ, List, IfErr, IfOk, OnOk, Some};
-ghost use Rattle.base_file.specs.Base.Base;
+ghost use Rattle.base_file.specs.Base.{Base};
 ghost use Rattle.{echo_addr.specs.declared.address.Address.Address as TheAddress, base_folder.specs.Ours.IsOfOther};
 ghost use Rattle.{base_folder.specs.{Unopened.{HasOpened, HaveRoom, IsOpenedFor, OpensOnly}, Wrong.NeedsSound}, disk_io.specs.{Device.Failed, Disk.Honestly}};
 ghost use Rattle.{disk_io.specs.Runs.ChangesNothing, base_log.specs.Opening.AreAlone, base_folder_store.specs.Held.RepresentsBase};

@@ -1,6 +1,6 @@
 //! A base replaces its file.
 ghost use Rattle.std.specs.Prelude.{◌≡◌, ◌≢◌, All, IfErr, IfOk, IsErrOf, OnOk, Some};
-ghost use Rattle.base_file.specs.BaseFile.saved_bytes;
+ghost use Rattle.base_file.specs.BaseFile.{saved_bytes};
 ghost use Rattle.{disk_io.specs.Runs.{HasCause, LeavesOnly, OneStepOn}, disk_atomic.specs.{Changes.{ChangesOnly, HasOnDisk}, Replacing.Replaces}};
 ghost use Rattle.{disk_atomic.specs.StagingPaths.staging_path, cmd_status.specs.Inputs.IsBaseGiven, base_folder_store.specs.Calls.HasWriteCause};
 ghost use Rattle.station_bases.specs.{Entries.IsUnsaved, InFile.{IsInFile, IsOfFile, IsUncounted, PutsBase}};
