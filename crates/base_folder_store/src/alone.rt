@@ -10,6 +10,12 @@ use disk_io::Watched;
 use echo_filed::{Filed, is_short, is_short_enough, send_message};
 use std::alloc::Global;
 
+/// How many bytes an entry of SEEN-BY or PATH takes at most, with its space, in most texts.
+const ENTRY_ROOM: usize = 6;
+
+/// How many bytes a message has besides: the numbers, the names, the tag and the words of its lists.
+const FRONT_ROOM: usize = 512;
+
 /// The message of these stored bytes. They are `Damaged` if they are not one message, judged as `read_message` says. The
 /// content of the room makes no difference.
 pub fn read_alone(room: &mut MessageRoom, bytes: &[u8]) -> Result<Filed, StoreError>
@@ -31,6 +37,15 @@ fn is_filed(message: &Filed)
     let _sender = message.sender;
 }
 
+// How many bytes most stored messages have at most: more are rarely needed.
+fn usual_room(message: &Filed) -> usize {
+    let echo = &message.echo;
+    let entries = echo.seen.len().saturating_add(echo.path.len());
+    let lists = entries.saturating_mul(ENTRY_ROOM);
+    let kept = echo.kept.as_text().len();
+    kept.saturating_add(lists).saturating_add(FRONT_ROOM)
+}
+
 fn write_whole(alloc: Global, message: &Filed, short: bool) -> Result<Vec<u8>, StoreError>
     ensures bytes { IfOk result (λ bytes. bytes.items ≡ stored_bytes Second (stored_as short message.now)) }
     ensures room { IfOk result (λ _. is_short_enough (stored_as short message.now) ≡ true) }
@@ -41,7 +56,8 @@ fn write_whole(alloc: Global, message: &Filed, short: bool) -> Result<Vec<u8>, S
     if !is_short_enough(alloc, message, short)? {
         return Err(StoreError::TooMany);
     }
-    let mut bytes = Watched::new(Vec::new(alloc));
+    let room = Vec::with_capacity(alloc, usual_room(message))?;
+    let mut bytes = Watched::new(room);
     match send_message(alloc, &mut bytes, message, short, &mut 0) {
         Ok(()) => Ok(bytes.into_inner()),
         Err(_) => Err(StoreError::Memory),

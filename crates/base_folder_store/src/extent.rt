@@ -1,13 +1,14 @@
 //! Messages in a part of a file, and in the bytes that wait to be written after it. They are found by their entries.
 ghost use Rattle.std.specs.Prelude.{◌≡◌, ◌≤◌, ◌<◌, ◌/◌, ℕ, List, length, IfOk, IsErrOf, OnOk, drop, take};
 ghost use Rattle.disk_io.specs.{Disk.Honestly, Runs.ChangesNothing, Runs.HasCause};
-ghost use Rattle.echo_filed.specs.{Stored.IsStored, Stored.Stored, Stored.message_in, Stored.stored_bytes, declared.stored.Version.TheVariants.Second};
-ghost use Rattle.base_file.specs.Alone.{MayStandAlone};
+ghost use Rattle.echo_filed.specs.{Filed.Filed, Stored.IsStored, Stored.Stored, Stored.message_in, Stored.stored_bytes, declared.stored.Version.TheVariants.Second};
+ghost use Rattle.base_file.specs.Alone.{IsStoredAlone, MayStandAlone};
 ghost use Rattle.base_store.specs.Keys.{HasBytesOf, place_at, place_behind};
 ghost use Rattle.base_folder_store.specs.{Ahead.IsPartOf, Answers.Answers, Answers.HasReadCause, Extent.IsReadable, Extent.bytes_of, Extent.size_of, Vouched.AreBytesAt, Vouched.IsMessageAt};
 
 use crate::alone::read_alone;
 use crate::read_ahead::ReadAhead;
+use crate::sought::{Sought, is_stored};
 use base_file::MessageRoom;
 use base_store::{StoreError, message_end, message_start};
 use disk_io::{Disk, DiskError, fill_with_part};
@@ -102,6 +103,33 @@ pub fn stored_at<D: Disk>(
     let mut bytes = Vec::new(alloc);
     fill_across(disk, extent, at.begins, at.ends, &mut bytes)?;
     Ok(bytes)
+}
+
+/// Whether the first message of these entries is the sought one. It is read ahead.
+pub(crate) fn is_at<D: Disk, W: Sought>(
+    alloc: Global,
+    disk: &mut D,
+    extent: Extent<'_>,
+    ahead: &mut ReadAhead,
+    sought: &W,
+    entries: &[u8],
+) -> Result<bool, StoreError>
+    requires readable { Honestly (D.state disk.old) (IsReadable (D.state disk.old) extent) }
+    requires head { extent.head ≤ extent.end }
+    requires within { 0 < length entries.now / 16 }
+    ensures found { Honestly (D.state disk.new) ((s : Stored) (m : Filed) → IsStoredAlone m (stored_bytes Second s) → HasBytesOf (bytes_of (D.state disk.old) extent.entry) entries.now 0 s
+        → IsPartOf (bytes_of (D.state disk.old) extent.entry) ahead.old → Answers (λ found. found ≡ W.test sought.now m) result) }
+    ensures part { Honestly (D.state disk.new) (IsPartOf (bytes_of (D.state disk.old) extent.entry) ahead.old → IsPartOf (bytes_of (D.state disk.old) extent.entry) ahead.new) }
+    ensures quiet { ChangesNothing (D.state disk.old) (D.state disk.new) }
+    ensures cause { HasReadCause (D.failures disk.old) (D.failures disk.new) result }
+    ensures few { IsErrOf result StoreError.TooMany → ⊥ }
+{
+    let at = bounds_in(extent, entries, 0)?;
+    ahead.read(disk, extent, at.begins, at.ends)?;
+    match ahead.part(at.begins, at.ends) {
+        Some(bytes) => is_stored(alloc, sought, bytes),
+        None => Err(StoreError::Damaged),
+    }
 }
 
 /// The message of this number among these entries. It is read ahead.

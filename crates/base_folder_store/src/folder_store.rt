@@ -130,9 +130,10 @@ impl<D: Disk, H: Digest> Store for FolderStore<D, H> {
 
     fn knows(&mut self, key: &Key) -> Result<bool, StoreError> {
         let digest = self.folder.digest_of_key::<H>(self.alloc, key)?;
+        let (index, buffers) = (&mut self.index, &mut self.buffers);
         let found = self
             .folder
-            .find(self.alloc, &mut self.disk, &mut self.index, key, digest);
+            .find(self.alloc, &mut self.disk, index, buffers, key, digest);
         note_look(&mut self.unread, &found);
         found
     }
@@ -143,6 +144,7 @@ impl<D: Disk, H: Digest> Store for FolderStore<D, H> {
             self.alloc,
             &mut self.disk,
             &mut self.index,
+            &mut self.buffers,
             &Id { msgid },
             digest,
         );

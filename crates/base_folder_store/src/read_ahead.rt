@@ -7,7 +7,7 @@ use base_file::MessageRoom;
 use disk_io::{Disk, DiskError};
 use std::alloc::Global;
 
-/// How many bytes are read at once, if the extent has so many.
+/// How many bytes are read ahead, if the extent has so many.
 const PIECE: usize = 65_536;
 
 /// A part of an extent, and the place where it begins.
@@ -36,8 +36,19 @@ impl ReadAhead {
         self.from <= begins && ends - self.from <= self.bytes.len()
     }
 
-    /// Reads the bytes between two places of an extent, and more behind them, if it lacks them. After a fault it has no
-    /// bytes.
+    // Up to where to read. More is read only where these bytes go on from those it has: looks at random places have no use
+    // for it.
+    fn up_to(&self, begins: usize, ends: usize) -> usize
+        ensures { ends ≤ result }
+    {
+        if self.from <= begins && begins - self.from <= self.bytes.len() {
+            return ends.max(begins.saturating_add(PIECE));
+        }
+        ends
+    }
+
+    /// Reads the bytes between two places of an extent, if it lacks them. Where they go on from those it has, it also
+    /// reads more behind them. After a fault it has no bytes.
     pub fn read<D: Disk>(
         &mut self,
         disk: &mut D,
@@ -58,7 +69,7 @@ impl ReadAhead {
             return Ok(());
         }
         let all = (extent.end - extent.head).saturating_add(extent.waiting.len());
-        let to = ends.max(begins.saturating_add(PIECE)).min(all);
+        let to = self.up_to(begins, ends).min(all);
         self.from = begins;
         match fill_across(disk, extent, begins, to, &mut self.bytes) {
             Ok(()) => Ok(()),

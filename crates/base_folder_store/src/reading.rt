@@ -1,13 +1,14 @@
 //! Messages and keys of an open base folder, read from its files and from what waits to be written.
-ghost use Rattle.std.specs.Prelude.{◌≡◌, ◌≤◌, ◌<◌, ◌+◌, ◌-◌, ◌*◌, ◌/◌, List, length, min, IfOk, IsErrOf, IfSome};
+ghost use Rattle.std.specs.Prelude.{◌≡◌, ◌≤◌, ◌<◌, ◌+◌, ◌-◌, ◌*◌, ◌/◌, List, length, min, slice_index_or, IfOk, IsErrOf, IfSome};
 ghost use Rattle.disk_io.specs.{Disk.Honestly, Runs.ChangesNothing};
 ghost use Rattle.echo_filed.specs.{Filed.Filed, Stored.Stored, Stored.message_in, Stored.stored_bytes, declared.stored.Version.TheVariants.Second};
 ghost use Rattle.base_store.specs.{Index.IsIndexOf, Keys.HasBytesOf, Keys.IsPieceOf, Keys.AreWhereRecorded};
 ghost use Rattle.base_folder_store.specs.{Ahead.HasParts, Answers.Answers, Answers.HasReadCause, Answers.IsStoredOf, Extent.IsExtent, Opened.IsLegible, Opened.held_by, Vouched.IsReadAt, Vouched.IsReadOf, Vouched.IsThere};
 
-use crate::extent::{Extent, fill_across, read_at, stored_at};
+use crate::extent::{Extent, fill_across, is_at, read_at, stored_at};
 use crate::folder::{ENTRY, Folder};
 use crate::read_ahead::Buffers;
+use crate::sought::Sought;
 use base_store::{Index, StoreError, stored_digest};
 use disk_io::Disk;
 use echo_filed::Filed;
@@ -27,7 +28,7 @@ pub(crate) struct ReadMessage {
 }
 
 impl Folder {
-    fn key_bytes(&self) -> Extent<'_>
+    pub(crate) fn key_bytes(&self) -> Extent<'_>
         ensures { IsExtent self.now.names.keys.items self.now.recorded.keys self.now.waiting.keys.items result }
     {
         Extent {
@@ -139,6 +140,32 @@ impl Folder {
         let bytes = stored_at(alloc, disk, self.message_bytes(), &entry, 0)?;
         let digest = stored_digest(&entry, 0);
         Ok(StoredBytes { bytes, digest })
+    }
+
+    // Whether the message of this number is the sought one. It is read ahead.
+    pub(crate) fn is_sought<D: Disk, W: Sought>(
+        &self,
+        alloc: Global,
+        disk: &mut D,
+        index: &Index,
+        buffers: &mut Buffers,
+        sought: &W,
+        place: usize,
+    ) -> Result<bool, StoreError>
+        requires legible { Honestly (D.state disk.old) (IsLegible (D.state disk.old) self.now) }
+        requires indexed { Honestly (D.state disk.old) (IsIndexOf (held_by (D.state disk.old) self.now).keys index.now) }
+        requires parts { Honestly (D.state disk.old) (HasParts (D.state disk.old) self.now buffers.old) }
+        requires within { place < self.now.keys / 16 }
+        ensures found { Honestly (D.state disk.new) ((base : List Filed) (d : Filed) → AreWhereRecorded base (held_by (D.state disk.old) self.now).messages (held_by (D.state disk.old) self.now).keys
+            → place < length base → Answers (λ found. found ≡ W.test sought.now (slice_index_or base place d)) result) }
+        ensures parts { Honestly (D.state disk.new) (HasParts (D.state disk.old) self.now buffers.new) }
+        ensures quiet { ChangesNothing (D.state disk.old) (D.state disk.new) }
+        ensures cause { HasReadCause (D.failures disk.old) (D.failures disk.new) result }
+        ensures few { IsErrOf result StoreError.TooMany → ⊥ }
+    {
+        let entry = self.entry_at(alloc, disk, Some(index), place)?;
+        let ahead = &mut buffers.messages;
+        is_at(alloc, disk, self.message_bytes(), ahead, sought, &entry)
     }
 
     /// The message of this number, counted from 0. It and its entry are read ahead.

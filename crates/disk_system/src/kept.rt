@@ -17,11 +17,12 @@ struct KeptFile<F: Drop> {
     placed: Placed<F>,
 }
 
-/// The two files that were read last, and the two that were written last.
+/// The three files that were read last, since a look at a base folder reads three, and the two that were written last.
 #[derive(Drop)]
 pub(crate) struct KeptFiles<F: Drop> {
     read: Option<KeptFile<F>>,
     read_before: Option<KeptFile<F>>,
+    read_first: Option<KeptFile<F>>,
     written: Option<KeptFile<F>>,
     written_before: Option<KeptFile<F>>,
 }
@@ -53,6 +54,7 @@ impl<F: Drop> KeptFiles<F> {
         KeptFiles {
             read: None,
             read_before: None,
+            read_first: None,
             written: None,
             written_before: None,
         }
@@ -63,13 +65,20 @@ impl<F: Drop> KeptFiles<F> {
         if last.is_some() {
             return last;
         }
-        take(&mut self.read_before, path)
+        let before = take(&mut self.read_before, path);
+        if before.is_some() {
+            return before;
+        }
+        take(&mut self.read_first, path)
     }
 
     pub(crate) fn keep_read(&mut self, path: &[u8], placed: Placed<F>) {
         let last = mem::replace(&mut self.read, with_path(path, placed));
         if last.is_some() {
-            self.read_before = last;
+            let before = mem::replace(&mut self.read_before, last);
+            if before.is_some() {
+                self.read_first = before;
+            }
         }
     }
 

@@ -1,6 +1,6 @@
 use Rattle.std.{proofs.Common.{◌≡◌, Bool, arith}, specs.List.list_any}
 use Rattle.disk_io.proofs.Moments.{nothing_twice}
-use Rattle.base_folder_store.proofs.{Bases.recorded_quiet, Causes.answers_whole, Cached.indexed_held, Legible.held_quiet, Legible.legible_quiet}
+use Rattle.base_folder_store.proofs.{Bases.recorded_quiet, Causes.answers_whole, Cached.{indexed_held, parts_held}, Legible.held_quiet, Legible.legible_quiet}
 use Rattle.base_folder_store.proofs.folder.Folder.find.Goals as goal
 
 pub returns-in_err-go_over-clause-found : goal.returns-in_err-go_over-clause-found
@@ -12,6 +12,9 @@ find_covered-requires-clause-legible g c honest = grind (arith, legible_quiet)
 
 pub find_covered-requires-clause-indexed : goal.find_covered-requires-clause-indexed
 find_covered-requires-clause-indexed g c honest = grind (arith, indexed_held, held_quiet)
+
+pub find_covered-requires-clause-parts : goal.find_covered-requires-clause-parts
+find_covered-requires-clause-parts g c honest = grind (arith, held_quiet)
 
 pub returns-clause-found : goal.returns-clause-found
 returns-clause-found g c honest = grind (arith, recorded_quiet, held_quiet)
