@@ -1,17 +1,14 @@
 -- A stored message that is sent part after part.
-use Rattle.std.proofs.Common.{◌≡◌, ℕ, ◌^◌, ◌<◌, Bool, true, false, List, [], ◌++◌, length, ap, subst, ◌∙◌, Option, Result, Ok, Err, arith, append_assoc}
-use Rattle.std.proofs.{lemmas.Bool.cond-false, lemmas.Bool.cond-true, KnownBytes.Appends-nil}
-use Rattle.std.specs.{Prelude.unwrap_or, Prelude.IfOk, Prelude.Vec, declared.alloc.Global.Global}
-use Rattle.echo_addr.specs.declared.address.Address.{Address}
-use Rattle.disk_io.specs.Device.{Sends, SendsFront}
-use Rattle.echo_text.specs.Echo.{EchoText, IsEcho, TextOf, msgid_of}
+use Rattle.std.proofs.Common.{◌≡◌, ℕ, Bool, true, false, List, [], ◌++◌, ap, subst, ◌∙◌, Option, Result, Ok, Err, arith, append_assoc}
+use Rattle.std.proofs.lemmas.Bool.{cond-false, cond-true}
+use Rattle.std.specs.{Prelude.unwrap_or, Prelude.IfOk, Prelude.Vec, List.flat_map, declared.alloc.Global.Global}
+use Rattle.echo_addr.specs.{declared.address.Address.Address, declared.address.NetNode.NetNode, ShortLines.AddsLines, ShortLines.ShortLines, ShortLines.path_prefix, ShortLines.seen_prefix}
+use Rattle.disk_io.specs.Device.{Sends}
+use Rattle.echo_text.specs.Echo.{EchoText, IsEcho, TextOf, ended, msgid_of}
 use Rattle.echo_text.proofs.OneReading.{one_text}
 use Rattle.echo_filed.specs.Stored.{Second, after_length, after_long_length, has_tag, kind_of, last_bytes, stored_as, stored_bytes}
-use Rattle.echo_filed.specs.{Written.text_of, Filed.Filed, Sending.front_bytes, Sending.strings_bytes}
+use Rattle.echo_filed.specs.{Written.text_of, Filed.Filed, Sending.front_bytes, Sending.strings_bytes, Sending.text_with}
 use Rattle.echo_filed.proofs.Texts.{text_is_text}
-
-pub SendsFront-none : (a : Option (List ℕ)) (bytes : List ℕ) (s : ℕ) → 0 < length bytes → s < 2 ^ 64 → SendsFront a a bytes s s
-SendsFront-none a bytes s some fits = (0, some, Appends-nil a, omega arith)
 
 abbrev pub id_sent : EchoText → List ℕ
 id_sent e = after_length e.tag ++ after_long_length (unwrap_or (msgid_of e.kept) [])
@@ -42,3 +39,16 @@ pub written_is : {E : Type 0} (e f : EchoText) (r : Result (Vec ℕ Global) E) �
     → IfOk r (λ text. text.items ≡ text_of f)
 written_is e f (Ok text) same is h = one_text e text.items (text_of e) h (text_is_text e is) ∙ ap text_of same
 written_is e f (Err x) same is h = tt
+
+-- A text ends with the SEEN-BY and PATH lines of its entries.
+pub text_ends : (e : EchoText) (seen path : List NetNode) (none some lines : List ℕ) → IsEcho e → seen ≡ e.seen → path ≡ e.path → none ≡ []
+    → AddsLines seen_prefix seen none some → AddsLines path_prefix path some lines → text_of e ≡ text_with e.tag (flat_map ended e.kept) lines
+text_ends e seen path none some lines is s p empty first second =
+    let whole : lines ≡ first.added ++ second.added = second.whole ∙ ap (λ (l : List ℕ). l ++ second.added) (first.whole ∙ ap (λ (l : List ℕ). l ++ first.added) empty) in
+    one_text e (text_of e) (text_with e.tag (flat_map ended e.kept) lines) (text_is_text e is) (record {
+      seen_lines = first.added;
+      path_lines = second.added;
+      seen = subst (λ (l : List NetNode). ShortLines seen_prefix l first.added) s first.lines;
+      path = subst (λ (l : List NetNode). ShortLines path_prefix l second.added) p second.lines;
+      whole = ap (λ (l : List ℕ). text_with e.tag (flat_map ended e.kept) l) whole;
+    })

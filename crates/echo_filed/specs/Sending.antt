@@ -2,6 +2,7 @@
 use Rattle.std.specs.Prelude.{◌≡◌, ℕ, List, ◌∷◌, ◌++◌, Result, Ok, Err}
 use Rattle.disk_io.specs.Device.{Failed}
 use Rattle.echo_packet.specs.Header.{word}
+use Rattle.echo_text.specs.{Lines.area_word, Echo.ended}
 use Rattle.echo_filed.specs.{declared.sending.Unsent.Unsent, Stored.Stored, Stored.after_length}
 use Rattle.echo_filed.specs.declared.sending.Unsent.TheVariants as unsent
 
@@ -17,3 +18,7 @@ front_bytes s = s.kind ∷ (word s.zone ++ (word s.net ++ (word s.node ++ s.date
 
 abbrev pub strings_bytes : List ℕ → List ℕ → List ℕ → List ℕ
 strings_bytes to_name from_name subject = after_length to_name ++ (after_length from_name ++ after_length subject)
+
+-- The text with this tag, these kept lines with their 0Ds, and these SEEN-BY and PATH lines.
+abbrev pub text_with : List ℕ → List ℕ → List ℕ → List ℕ
+text_with tag kept lines = ended (area_word ++ tag) ++ (kept ++ lines)

@@ -1,16 +1,17 @@
 //! A message in the form of version 2 of a base, written to a sink. A failed call wrote a beginning
 //! of its bytes and nothing else.
 ghost use Rattle.std.specs.Prelude.{◌≡◌, [], ◌^◌, ◌<◌, ◌++◌, length, unwrap_or, IsTrue, IfOk, OnOk, OnErr, true};
+ghost use Rattle.std.specs.List.{flat_map};
 ghost use Rattle.disk_io.specs.Device.{Failed, Sends};
-ghost use Rattle.echo_text.specs.Echo.{msgid_of};
+ghost use Rattle.echo_text.specs.{Lines.area_word, Echo.ended, Echo.msgid_of};
 ghost use Rattle.echo_filed.specs.Stored.{Second, after_length, after_long_length, is_short, is_short_enough, kind_of, sender_or_zeros, stored_as, stored_bytes};
-ghost use Rattle.echo_filed.specs.{Written.text_of, Sending.CountsUnsent, Sending.front_bytes, Sending.strings_bytes};
+ghost use Rattle.echo_filed.specs.{Written.text_of, Sending.CountsUnsent, Sending.front_bytes, Sending.strings_bytes, Sending.text_with};
 
 use crate::filed::Filed;
 use crate::numbers::{long_bytes, word_bytes};
 use crate::stub::is_stub;
 use disk_io::{Failure, Sink, send};
-use echo_addr::Address;
+use echo_addr::{Address, push_path, push_seen};
 use echo_text::{Echo, write_text};
 use std::alloc::{AllocError, AllocFailed, Global};
 
@@ -53,6 +54,13 @@ const MOST: usize = 0xffff_ffff;
 const FEW: usize = 0x0100_0000;
 
 const LITTLE: usize = 0x4000_0000;
+
+const AREA: &[u8] = b"AREA:";
+
+// How many bytes most lines of SEEN-BY and PATH have at most, and how many an entry has there.
+const LINE_ROOM: usize = 80;
+
+const ENTRY_ROOM: usize = 6;
 
 /// Whether the message at this place has tag and id instead of the text.
 pub fn is_short(message: &Filed, place: usize, cursor: usize) -> bool
@@ -151,6 +159,59 @@ fn text_of(alloc: Global, message: &Filed) -> Result<Vec<u8>, AllocError>
     write_text(alloc, &message.echo)
 }
 
+// The SEEN-BY and PATH lines, the end of the text.
+fn list_lines(alloc: Global, echo: &Echo) -> Result<Vec<u8>, AllocError>
+    ensures { IfOk result (λ lines. text_of echo.now ≡ text_with echo.now.tag (flat_map ended echo.now.kept) lines.items) }
+{
+    let seen = echo.seen.as_slice();
+    let path = echo.path.as_slice();
+    let mut lines = Vec::with_capacity(alloc, lines_room(seen.len(), path.len()))?;
+    push_seen(&mut lines, seen)?;
+    push_path(&mut lines, path)?;
+    Ok(lines)
+}
+
+fn lines_room(seen: usize, path: usize) -> usize {
+    seen.saturating_add(path)
+        .saturating_mul(ENTRY_ROOM)
+        .saturating_add(2 * LINE_ROOM)
+}
+
+fn text_len(tag: &[u8], kept: &[u8], lines: &[u8]) -> u32
+    requires { length (text_with tag.now kept.now lines.now) < 2 ^ 32 }
+    ensures { result ≡ length (text_with tag.now kept.now lines.now) }
+{
+    (AREA.len() + tag.len() + 1 + kept.len() + lines.len()) as u32
+}
+
+fn send_area<W: Sink>(writer: &mut W, tag: &[u8], sent: &mut u64) -> Result<(), Failure>
+    ensures bytes { Sends (W.contents writer.old) (W.contents writer.new) result (ended (area_word ++ tag.now)) sent.old sent.new }
+    ensures ok { OnOk result (W.failures writer.new ≡ W.failures writer.old) }
+    ensures err { OnErr result (Failed (W.failures writer.old) (W.failures writer.new)) }
+{
+    send(writer, AREA, sent)?;
+    send(writer, tag, sent)?;
+    send(writer, &[13], sent)
+}
+
+fn send_parts<W: Sink>(
+    writer: &mut W,
+    tag: &[u8],
+    kept: &[u8],
+    lines: &[u8],
+    sent: &mut u64,
+) -> Result<(), Failure>
+    requires { length (text_with tag.now kept.now lines.now) < 2 ^ 32 }
+    ensures bytes { Sends (W.contents writer.old) (W.contents writer.new) result (after_long_length (text_with tag.now kept.now lines.now)) sent.old sent.new }
+    ensures ok { OnOk result (W.failures writer.new ≡ W.failures writer.old) }
+    ensures err { OnErr result (Failed (W.failures writer.old) (W.failures writer.new)) }
+{
+    send(writer, &long_bytes(text_len(tag, kept, lines)), sent)?;
+    send_area(writer, tag, sent)?;
+    send(writer, kept, sent)?;
+    send(writer, lines, sent)
+}
+
 fn send_text<W: Sink>(
     alloc: Global,
     writer: &mut W,
@@ -162,8 +223,15 @@ fn send_text<W: Sink>(
     ensures bytes { Sends (W.contents writer.old) (W.contents writer.new) result (after_long_length (text_of message.now.echo)) sent.old sent.new }
     ensures device { CountsUnsent result (W.failures writer.old) (W.failures writer.new) }
 {
-    let text = text_of(alloc, message)?;
-    send_long(writer, &text, sent)?;
+    let echo = &message.echo;
+    let lines = list_lines(alloc, echo)?;
+    send_parts(
+        writer,
+        echo.tag.as_slice(),
+        echo.kept.as_text(),
+        &lines,
+        sent,
+    )?;
     Ok(())
 }
 
