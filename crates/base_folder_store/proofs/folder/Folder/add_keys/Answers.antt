@@ -2,14 +2,14 @@ use Rattle.std.proofs.Common.{◌≡◌, ◌≤◌, ◌+◌, ◌-◌, ◌*◌, �
 use Rattle.base_store.specs.Keys.{IsPieceOf}
 use Rattle.base_folder_store.specs.Opened.{held_by}
 use Rattle.base_folder_store.proofs.{Extents.{keys_kept, keys_readable}, Legible.keys_all, Numbered.piece_of}
-use Rattle.base_folder_store.proofs.folder.Folder.add_keys.Goals.{After-add_keys-in-Some}
+use Rattle.base_folder_store.proofs.folder.Folder.add_keys.Goals.{After-add_keys}
 use Rattle.base_folder_store.proofs.folder.Folder.add_keys.Given as given
 use Rattle.base_folder_store.proofs.folder.Folder.add_keys.Goals as goal
 
 pub read-requires-clause-readable : goal.read-requires-clause-readable
 read-requires-clause-readable g c honest = grind (arith, keys_readable)
 
-piece : (g : given.Over) (c : After-add_keys-in-Some g) → (g.D.Disk.state c.read.new.disk).is_honest → IsPieceOf (held_by (g.D.Disk.state c.args.disk.now) c.args.self.now).keys c.args.from c.in-Some.piece.now
+piece : (g : given.Over) (c : After-add_keys g) → (g.D.Disk.state c.read.new.disk).is_honest → IsPieceOf (held_by (g.D.Disk.state c.args.disk.now) c.args.self.now).keys c.args.from c.in-Some.piece.now
 piece g c honest =
     let d = g.D.Disk.state c.args.disk.now in
     let f = c.args.self.now in
@@ -22,8 +22,15 @@ piece g c honest =
 
 pub returns-in_err-add_keys-in-Some-clause-indexed : goal.returns-in_err-add_keys-in-Some-clause-indexed
 returns-in_err-add_keys-in-Some-clause-indexed g c honest = λ at is.
-    c.in_err-add_keys-in-Some.ensures.index (held_by (g.D.Disk.state c.args.disk.now) c.args.self.now).keys at (piece g (goal.at.returns-in_err-add_keys-in-Some-clause-indexed g c).After-add_keys-in-Some honest) is
+    c.in_err-add_keys-in-Some.ensures.index (held_by (g.D.Disk.state c.args.disk.now) c.args.self.now).keys at (piece g (goal.at.returns-in_err-add_keys-in-Some-clause-indexed g c).After-add_keys honest) is
 
 pub returns-in_ok-add_keys-in-Some-clause-indexed : goal.returns-in_ok-add_keys-in-Some-clause-indexed
 returns-in_ok-add_keys-in-Some-clause-indexed g c honest = λ at is.
-    c.in_ok-add_keys-in-Some.ensures.index (held_by (g.D.Disk.state c.args.disk.now) c.args.self.now).keys at (piece g (goal.at.returns-in_ok-add_keys-in-Some-clause-indexed g c).After-add_keys-in-Some honest) is
+    c.in_ok-add_keys-in-Some.ensures.index (held_by (g.D.Disk.state c.args.disk.now) c.args.self.now).keys at (piece g (goal.at.returns-in_ok-add_keys-in-Some-clause-indexed g c).After-add_keys honest) is
+
+pub returns-in_ok-add_keys-in-Some-clause-covered : goal.returns-in_ok-add_keys-in-Some-clause-covered
+returns-in_ok-add_keys-in-Some-clause-covered g c honest = λ at is.
+    let keys = (held_by (g.D.Disk.state c.args.disk.now) c.args.self.now).keys in
+    let order = c.requires.order in
+    let covered = c.in_ok-add_keys-in-Some.ensures.covered keys at (piece g (goal.at.returns-in_ok-add_keys-in-Some-clause-covered g c).After-add_keys honest) is in
+    omega (arith, covered, order, c.in-Some.ensures.long)

@@ -20,7 +20,7 @@ returns-clause-cause g c =
     let d = g.D.Disk.state s.disk in
     let keyed = g.H.Digest.keyed in
     let e = g.D.Disk.state c.find-found.new.disk in
-    read_cause (where_so (state_of d keyed s.folder s.message) (IsCached d s.folder s.index s.buffers) s.unread) (where_so (state_of e keyed s.folder s.message) (IsCached e s.folder c.find-found.new.index s.buffers) c.note_look.new.unread) (λ (base : Base) (found : Bool). found ≡ is_known base.messages c.args.key.now) (g.D.Disk.failures s.disk) (g.D.Disk.failures c.find-found.new.disk) c.find-found.result c.find-found.ensures.cause
+    read_cause (where_so (state_of d keyed s.folder s.message) (IsCached d s.folder s.index s.buffers) s.unread) (where_so (state_of e keyed s.folder s.message) (IsCached e s.folder c.find-found.new.index c.find-found.new.buffers) c.note_look.new.unread) (λ (base : Base) (found : Bool). found ≡ is_known base.messages c.args.key.now) (g.D.Disk.failures s.disk) (g.D.Disk.failures c.find-found.new.disk) c.find-found.result c.find-found.ensures.cause
     (λ honest base holds. c.find-found.ensures.found honest base.messages (recorded_where keyed (held_by d s.folder) base holds)
     (key_digest keyed (held_by d s.folder) base c.args.key.now c.in_ok-digest.digest holds c.in_ok-digest.ensures))
     (sound_kept s.unread c.note_look.new.unread c.find-found.result c.note_look.ensures.ended)
