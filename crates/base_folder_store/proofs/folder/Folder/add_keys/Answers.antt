@@ -1,4 +1,4 @@
-use Rattle.std.proofs.Common.{◌≡◌, ◌≤◌, ◌+◌, ◌-◌, ◌*◌, ◌/◌, ℕ, arith}
+use Rattle.std.proofs.Common.{arith}
 use Rattle.base_store.specs.Keys.{IsPieceOf}
 use Rattle.base_folder_store.specs.Opened.{held_by}
 use Rattle.base_folder_store.proofs.{Extents.{keys_kept, keys_readable}, Legible.keys_all, Numbered.piece_of}

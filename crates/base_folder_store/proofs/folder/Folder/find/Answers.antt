@@ -1,6 +1,6 @@
 use Rattle.std.{proofs.Common.{◌≡◌, Bool, arith}, specs.List.list_any}
 use Rattle.disk_io.proofs.Moments.{nothing_twice}
-use Rattle.base_folder_store.proofs.{Bases.recorded_quiet, Causes.answers_whole, Cached.{indexed_held, parts_held}, Legible.held_quiet, Legible.legible_quiet}
+use Rattle.base_folder_store.proofs.{Bases.recorded_quiet, Causes.answers_whole, Cached.indexed_held, Legible.held_quiet, Legible.legible_quiet}
 use Rattle.base_folder_store.proofs.folder.Folder.find.Goals as goal
 
 pub returns-in_err-go_over-clause-found : goal.returns-in_err-go_over-clause-found

@@ -1,9 +1,8 @@
 use Rattle.std.{proofs.{Common.{◌≡◌, ◌<◌, ◌≤◌, ◌*◌, ◌/◌, ℕ, Bool, List, get_or, length, sym, ◌∙◌, arith}, lemmas.List.Folds.list_any_at}, specs.List.list_any}
-use Rattle.disk_io.specs.{Disk.DiskState, Runs.ChangesNothing}
 use Rattle.disk_io.proofs.Moments.{nothing_twice}
 use Rattle.echo_filed.specs.Filed.{Filed}
-use Rattle.base_folder_store.specs.{Ahead.AreParts, Opened.held_by, declared.{folder.Folder.Folder, read_ahead.Buffers.Buffers}}
-use Rattle.base_folder_store.proofs.{Bases.recorded_quiet, Cached.parts_held, Causes.answers_error, Legible.{held_quiet, keys_all, legible_quiet}, Looked.none_found, Looked.passed_on, Looked.some_message}
+use Rattle.base_folder_store.specs.Opened.{held_by}
+use Rattle.base_folder_store.proofs.{Bases.recorded_quiet, Causes.answers_error, Legible.{held_quiet, keys_all, legible_quiet}, Looked.none_found, Looked.passed_on, Looked.some_message}
 use Rattle.base_folder_store.proofs.folder.Folder.find_covered.Goals as goal
 
 few : (below count place : ℕ) (keys : List ℕ) (base : List Filed) → length keys ≡ count → length keys ≡ 16 * length base → below ≤ count / 16 → place < below → place < length base
