@@ -14,9 +14,9 @@ import tempfile
 TOP = os.path.dirname(os.path.dirname(os.path.abspath(__file__)))
 sys.path.insert(0, os.path.join(TOP, "trials"))
 import files
-import making
+from lib import making
 import nets
-from contents import write
+from lib.contents import write
 
 
 def put_net(folder, areas, count):

@@ -14,8 +14,8 @@ import time
 
 TOP = os.path.dirname(os.path.dirname(os.path.abspath(__file__)))
 sys.path.insert(0, os.path.join(TOP, "trials"))
-import making
-from contents import read, write
+from lib import making
+from lib.contents import read, write
 
 PROGRAM = os.environ.get("ECHONET", os.path.join(TOP, "bin", "echonet"))
 ROUNDS = 3
@@ -52,7 +52,7 @@ def posted(place, folder, serial):
     words = ["post", "--area", "TEST", "--to", "x", "--from", "x", "--subject", "x", "--serial", "%08x" % serial,
              "--at", STAMP, os.path.join(place, "links"), folder]
     told = subprocess.run(
-        [sys.executable, "-S", "-E", os.path.join(TOP, "trials", "running.py"), PROGRAM, *words],
+        [sys.executable, "-S", "-E", os.path.join(TOP, "trials", "lib", "running.py"), PROGRAM, *words],
         capture_output=True, check=True, text=True).stdout
     status, processor, seconds, kilobytes, fault = told.split(" ", 4)
     assert status == "0", fault

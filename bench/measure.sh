@@ -3,7 +3,7 @@ program=${ECHONET:-$top/bin/echonet}
 rounds=3
 export MOST_MEMORY=$((20 << 30))
 
-make_file() { python3 "$top/trials/make.py" "$@"; }
+make_file() { python3 "$top/trials/lib/make.py" "$@"; }
 
 # Makes a folder in the current one, works in it, and removes it at the end.
 work_in() {
@@ -17,7 +17,7 @@ measure() {
   local name=$1 wanted=$2 status processor seconds kilobytes fault
   shift 2
   read -r status processor seconds kilobytes fault << END
-$(python3 "$top/trials/running.py" "$@" < /dev/null)
+$(python3 "$top/trials/lib/running.py" "$@" < /dev/null)
 END
   [ "$status" = "$wanted" ] || { echo "$name: status $status, $fault" >&2; exit 1; }
   echo "$processor $seconds $kilobytes" >> "now.$name"

@@ -18,7 +18,7 @@ command -v crashmail > /dev/null || { echo "crashmail is not installed"; exit 1;
 size=1050 few=100 areas=100 kind=file
 known=$((count < 60000 ? count : 60000))
 stamp=2026-07-03T12:34:56
-make_file() { python3 "$top/trials/make.py" "$@"; }
+make_file() { python3 "$top/trials/lib/make.py" "$@"; }
 cd "$work"
 
 # The configuration of CrashMail at 1:10/1. Arguments: the kind of message base, the links, the areas.

@@ -4,8 +4,8 @@ yardstick of a repair is a scan of the same messages to one link; that of a stat
 - On a base folder of COUNT messages of 1.2 kB: `scan` to one link, `resend --all`, `resend --has` with a list of COUNT
   other ids, then with all ids of the base, and `list --ids`.
 - `resend --has` with a list of IDS ids on a base folder of ten messages.
-- `echonet-station STATION status` with a hundred areas, beside `list --areas`. toss-inbound.sh and scan-outbound.sh
-  without mail. toss-inbound.sh with 200 packets, without and with a file `peers`.
+- `echonet-station STATION status` with a hundred areas, beside `list --areas`. toss, scan and run
+  without mail. toss with 200 packets, without and with a file `peers`.
 
 Arguments: COUNT IDS (100000 1000000). ECHONET names the program, by default bin/echonet.
 """
@@ -17,9 +17,8 @@ import tempfile
 TOP = os.path.dirname(os.path.dirname(os.path.abspath(__file__)))
 sys.path.insert(0, os.path.join(TOP, "trials"))
 import files
-import making
-import running
-from contents import write
+from lib import making, running
+from lib.contents import write
 
 os.environ["ECHONET"] = PROGRAM = os.path.abspath(files.PROGRAM)
 LINKED = making.DOWNLINKS[0]
@@ -94,8 +93,8 @@ def repairs(place, count, ids):
 
 def stations(place):
     """The rows of a station."""
-    def script(name):
-        return os.path.join(TOP, "station", name)
+    def tool(word):
+        return os.path.join(TOP, "station", "echonet-station"), place, word
 
     def arrive(tags):
         for number in range(200):
@@ -111,16 +110,16 @@ def stations(place):
     tags = [b"AREA%02d" % number for number in range(100)]
     write(os.path.join(place, "links"), making.link_file(making.OWN, [(tag.decode(), [making.UPLINK]) for tag in tags]))
     os.mkdir(os.path.join(place, "inbound"))
-    measured("toss-inbound.sh of 200 packets", again, script("toss-inbound.sh"), place)
+    measured("toss of 200 packets by echonet-station", again, *tool("toss"))
     write(os.path.join(place, "peers"), b"")
     os.chmod(os.path.join(place, "peers"), 0o600)
-    measured("the same with a file peers", again, script("toss-inbound.sh"), place)
-    measured("toss-inbound.sh without mail, with peers", lambda: None, script("toss-inbound.sh"), place)
+    measured("the same with a file peers", again, *tool("toss"))
+    measured("run without mail, with peers", lambda: None, *tool("run"))
     os.remove(os.path.join(place, "peers"))
-    measured("toss-inbound.sh without mail", lambda: None, script("toss-inbound.sh"), place)
-    measured("scan-outbound.sh without mail", lambda: None, script("scan-outbound.sh"), place)
+    measured("run without mail", lambda: None, *tool("run"))
+    measured("scan without mail", lambda: None, *tool("scan"))
     measured("list --areas of a hundred areas", lambda: None, PROGRAM, "list", "--areas", os.path.join(place, "base"))
-    measured("echonet-station status of these", lambda: None, script("echonet-station"), place, "status")
+    measured("echonet-station status of these", lambda: None, *tool("status"))
 
 
 def main(words):

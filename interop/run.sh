@@ -14,7 +14,7 @@ for command in binkd crashmail crashwrite python3 perl flock setsid; do
 done
 program=$(realpath "${1:-$here/../bin/echonet}")
 export ECHONET=$program
-scripts=$here/../station
+tool=$here/../station/echonet-station
 port=${PORT:-24570}
 . "$here/stations.sh"
 . "$here/checks.sh"
@@ -47,8 +47,8 @@ make_stations() {
     cat > $station/toss.sh <<END
 #!/bin/sh
 for packet in $work/$station/inbound/*.pkt; do $work/$station/keep.sh "\$packet"; done
-$scripts/toss-inbound.sh $station >> $station/toss.log 2>&1
-$scripts/scan-outbound.sh $station >> $station/scan.log 2>&1
+$tool $station toss >> $station/toss.log 2>&1
+$tool $station scan >> $station/scan.log 2>&1
 END
     binkd_text $station "$(number_of $station)" "$station/toss.sh" > $station/binkd.conf
   done
@@ -74,7 +74,7 @@ stop_all() {
 }
 trap stop_all EXIT
 
-scan() { "$scripts/scan-outbound.sh" "$1" >> "$1/scan.log" 2>&1; }
+scan() { "$tool" "$1" scan >> "$1/scan.log" 2>&1; }
 
 # Posts at a station of echonet, and notes what each station has to get. Arguments: station, area, to, from, subject,
 # serial, time, reply. The body is standard input.

@@ -147,6 +147,7 @@ read_cases() {
       '@front '*) read -r _ count from name <<< "$line"; head -c "$count" "files/$from" > "files/$name" ;;
       '@text '*) read -r _ name line <<< "$line"; printf '%b' "$line" > "files/$name" ;;
       '@set '*) read -r -a cells <<< "$line"; changed "${cells[@]:1:2}" "files/${cells[3]}" > "files/${cells[4]}" ;;
+      '@grown '*) read -r _ count from name <<< "$line"; cp "files/$from" "files/$name"; truncate -s "$count" "files/$name" ;;
       '@joined '*) read -r -a cells <<< "$line"; (cd files && cat "${cells[@]:2}") > "files/${cells[1]}" ;;
       '@net '*) read -r -a cells <<< "$line"; make_net "files/${cells[1]}" "${cells[@]:2}" ;;
       @*) read -r how name <<< "$line"; : > "$place/lines" ;;

@@ -38,7 +38,7 @@ READS = {
     "cmd_input/locks": "locks",
     "cmd_packets/streams": "large packets of toss",
     "cmd_notes/file_notes": "files read again for a note on them",
-    "cmd_export/files": "the files of commands that read",
+    "cmd_door/reported": "a base that is read with reports of progress",
     "cmd_jam/contents": "the index of a JAM base, and where its texts end",
     "cmd_notes/notes": "the lists of files that a note is about",
     "cmd_notes/states": "what is found at a path, for a note",
@@ -57,6 +57,7 @@ OVER_ANY_DISK = {
     "read_folder": "base_folder",
     "fill": "base_folder",
     "check_owner": "cmd_export",
+    "judge_links": "cmd_export",
 }
 CALLS = re.compile(r"\bfs::|\brt::Files\b|\bOpenOptions\b|\bFileExt\b|\bmake_new\b|\bcreate_file\b|\bbegin_file\b")
 CHANGING = re.compile(

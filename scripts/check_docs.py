@@ -2,7 +2,7 @@
 """check_docs.py: names in documents exist. It reads README.md, CONTRIBUTING.md and docs. It looks at each word in
 backquotes that is a path of this repository, a crate, a function, a law, a target of make, a command or an option. It
 also looks at each link with its anchor, and at each word in italics that has an underscore: a clause of a contract or
-a field of a definition."""
+a field of a definition. The lines that `make help` prints have to name each target."""
 import glob
 import os
 import re
@@ -25,16 +25,21 @@ for it in sources:
     known.update(re.findall(r"\w+", text))
     clauses.update(re.findall(r"(?:ensures|requires) (\w+) \{", text))
     clauses.update(re.findall(r"^ +pub (\w+) :", text, re.M))
-for it in glob.glob("crates/*/must-fail/*.edit") + glob.glob("edits/*/*.edit"):
+for it in glob.glob("crates/*/must-fail/*.edit"):
     known.add(os.path.basename(it).rsplit(".", 1)[0])
+for it in glob.glob("edits/*.edits"):
+    known.update(re.findall(r"^edit ([\w.-]+)$", open(it).read(), re.M))
 for it in glob.glob("**/*.sh", recursive=True) + glob.glob("**/*.py", recursive=True):
     known.update(re.findall(r"\w+", open(it).read()))
 crates = {os.path.basename(it) for it in glob.glob("crates/*")}
 with open("Makefile") as file:
-    targets = set(re.findall(r"^\.PHONY: (.*)$", file.read(), re.M)[0].split())
+    makefile = file.read()
+targets = set(re.findall(r"^\.PHONY: (.*)$", makefile, re.M)[0].split())
+helped = {it for line in re.findall(r"^# - (.*)$", makefile, re.M) for it in re.findall(r"\bmake ([a-z-]+)", line)}
 with open("crates/cmd_words/src/commands.rt") as file:
     options = set(re.findall(r'"([a-z][a-z-]*)"', file.read())) | {"explain", "help", "version"}
-wrong = []
+wrong = ["Makefile: its help lacks " + it for it in sorted(targets - helped - {"all", "help"})]
+wrong += ["Makefile: no target " + it for it in sorted(helped - targets)]
 
 
 def anchors(page):
@@ -85,5 +90,9 @@ for page in pages:
                 for option in re.findall(r"--([a-z][a-z-]+)", word):
                     if option not in options:
                         wrong.append(f"{page}:{number}: no option --{option}")
-print("\n".join(wrong) or f"{len(pages)} documents: what they name exists")
+with open("docs/LIBRARY.md") as file, open("crates/library_tour/src/main.rt") as tour:
+    if "```rust\n%s```" % tour.read() not in file.read():
+        wrong.append("docs/LIBRARY.md: its tour is not crates/library_tour/src/main.rt")
+size = sum(os.path.getsize(it) for it in [*pages, "CHANGELOG.md", *glob.glob("docs/*.1")])
+print("\n".join(wrong) or f"{len(pages)} documents: what they name exists; with CHANGELOG and the manual pages {size} bytes")
 sys.exit(bool(wrong))

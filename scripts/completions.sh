@@ -1,6 +1,7 @@
 #!/usr/bin/env bash
 # completions.sh PROGRAM bash|zsh|fish: prints completions of `echonet` or `echonet-station` for a shell, made from the
-# program's own help. The command is the first word, or the second one after the folder of a station.
+# program's own help. The command is the first word. For `echonet-station` it may be the second one, after the folder of a
+# station.
 set -eu
 program=$1 shell=$2
 called=$(basename "$program")
@@ -39,22 +40,30 @@ table() {
   done
 }
 
+# Where the command of a station's line is: behind the folder of a station, or in front. A folder may have the name of a
+# command, if a command follows.
+place_in_bash() {
+  cat <<'END'
+  local place=2
+  if [[ " $commands " = *" ${COMP_WORDS[1]} "* && ! ( -d ${COMP_WORDS[1]} && " $commands " = *" ${COMP_WORDS[2]:--} "* ) ]]; then
+    place=1
+  fi
+  if [ "$COMP_CWORD" -eq 1 ]; then
+    compopt -o filenames 2> /dev/null
+    mapfile -t COMPREPLY < <(compgen -d -- "$word"; compgen -W "$commands --help --version" -- "$word")
+    return
+  fi
+END
+}
+
 in_bash() {
   echo "# Completions of $called for bash."
   echo "$function() {"
-  echo "  local word=\${COMP_WORDS[COMP_CWORD]} options"
-  if [ $place -eq 2 ]; then
-    echo '  if [ "$COMP_CWORD" -eq 1 ]; then'
-    echo '    compopt -o filenames 2> /dev/null'
-    echo '    mapfile -t COMPREPLY < <(compgen -d -- "$word"; compgen -W "--help --version" -- "$word")'
-    printf '    return\n  fi\n'
-    general=
-  else
-    general='--help --version'
-  fi
-  echo "  if [ \"\$COMP_CWORD\" -eq $place ]; then"
-  echo "    mapfile -t COMPREPLY < <(compgen -W '$(commands | cut -d'|' -f1 | tr '\n' ' ')$general' -- \"\$word\")"
-  printf '    return\n  fi\n  case ${COMP_WORDS[%d]} in\n' $place
+  echo "  local word=\${COMP_WORDS[COMP_CWORD]} options commands='$(commands | cut -d'|' -f1 | xargs)'"
+  if [ $place -eq 2 ]; then place_in_bash; else echo '  local place=1'; fi
+  echo '  if [ "$COMP_CWORD" -eq $place ]; then'
+  echo "    mapfile -t COMPREPLY < <(compgen -W \"\$commands$([ $place -eq 2 ] || echo ' --help --version')\" -- \"\$word\")"
+  printf '    return\n  fi\n  case ${COMP_WORDS[$place]} in\n'
   table | while read -r name options; do echo "    $name) options='${options% }' ;;"; done
   cat <<'END'
     *) options= ;;
@@ -73,13 +82,27 @@ zsh_text() {
   sed "s/'/'\\\\''/g; s/[]:[]/\\\\&/g"
 }
 
+# The same as place_in_bash. Words are counted from 1, and the first is that of the program.
+place_in_zsh() {
+  cat <<'END'
+  local -a names=(${commands%%:*})
+  local place=3
+  if (( $names[(Ie)$words[2]] )) && ! [[ -d $words[2] && $names[(Ie)$words[3]] -gt 0 ]]; then place=2; fi
+  if (( CURRENT == 2 )); then
+    _describe command commands
+    _files -/
+    return
+  fi
+END
+}
+
 in_zsh() {
   printf '#compdef %s\n# Completions of %s for zsh.\n%s() {\n  local -a commands\n  commands=(\n' "$called" "$called" "$function"
   commands | zsh_commands
   printf '  )\n'
-  if [ $place -eq 2 ]; then printf '  if (( CURRENT == 2 )); then\n    _files -/\n    return\n  fi\n'; fi
-  printf '  if (( CURRENT == %d )); then\n    _describe command commands\n    return\n  fi\n' $((place + 1))
-  printf '  case $words[%d] in\n' $((place + 1))
+  if [ $place -eq 2 ]; then place_in_zsh; else echo '  local place=2'; fi
+  printf '  if (( CURRENT == place )); then\n    _describe command commands\n    return\n  fi\n'
+  printf '  case $words[place] in\n'
   commands | while IFS='|' read -r name _; do
     [ "$name" = help ] && continue
     printf '    %s) _arguments' "$name"
@@ -102,7 +125,8 @@ in_fish() {
   echo "# Completions of $called for fish."
   begun=__fish_use_subcommand
   if [ $place -eq 2 ]; then
-    begun="'test (count (commandline -opc)) -eq 2'"
+    names=$(commands | cut -d'|' -f1 | xargs)
+    begun="'test (count (commandline -opc)) -le 2; and not __fish_seen_subcommand_from $names'"
     echo "complete -c $called -n 'test (count (commandline -opc)) -eq 1' -f -a '(__fish_complete_directories)'"
   fi
   commands | while IFS='|' read -r name text; do

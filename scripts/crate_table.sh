@@ -8,11 +8,12 @@ cd "$(dirname "$0")/.."
 # A line for each row: the group, the crates, and their purpose. A row without a group belongs to the group of the row
 # before.
 rows='
-tests      | test_trials |
+tests      | test_trials library_tour | trials; the library in one program
 program    | echonet cmd_words | picks the command; the command line
            | cmd_station cmd_net cmd_export cmd_notes | the commands on the files of the system
-           | cmd_jam cmd_packets cmd_base cmd_input | JAM bases; packets; bases; files, locks, clock, progress
-laws       | law_stations | nets of stations, crashes, sequences on disks
+           | cmd_jam cmd_door cmd_packets cmd_base cmd_input | JAM bases; packets; bases; files, locks, clock, progress
+laws       | law_session | a session of two stations on an honest disk
+           | law_stations | nets of stations, crashes, sequences on disks
 stations   | station_scan | a scan with its packets
            | station_bases | two kinds of base
            | station | lock, open, run one command
@@ -21,14 +22,15 @@ commands   | cmd_store | those that change a base, on any store
            | cmd_suppose | nets with systems that sent no file, or without some
            | cmd_show cmd_numbered cmd_repair | those that print, export or repair
            | cmd_print echo_export | lines, forms
-verdicts   | echo_net model_replay model_plan | check, replay and plans of runs, as functions
-tosser     | echo_toss | the steps of one system, on any store
+verdicts   | echo_verdict echo_net model_plan | check, replay and plans of runs, as functions
+tosser     | echo_toss | a tosser with its base in memory
+           | echo_steps | the steps of one system, on any store
 model      | model_run | runs of systems, tidy areas, any tossers, harm, the headline
            | model_graph | cycles and walks
 stores     | base_folder base_folder_store | a base folder
            | base_store | the trait, a base in memory, keys
 disks      | disk_atomic base_log | whole files; the log of a base folder
-           | disk_system | the files of the system
+           | disk_system disk_memory | the files of the system; a disk in memory, which is honest
 steps      | model_steps cmd_status | the steps as definitions; faults and statuses
 formats    | base_file echo_filed echo_packet echo_text echo_links echo_nodelist |
            | echo_jam echo_stored echo_mail echo_charset echo_addr disk_io |'

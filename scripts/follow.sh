@@ -1,12 +1,12 @@
 #!/usr/bin/env bash
 # Follows the sessions of a document from its first line to its last in an empty folder. It runs each line
 # `    $ COMMAND`, and compares the output with the lines below it. Serials of eight hexadecimal digits, timestamps, dates
-# and ages may differ. A document calls the empty folder /home/fido, and the folder of the scripts /usr/share/echonet.
+# and ages may differ. A document calls the empty folder /home/fido, and the folder of the programs /usr/bin.
 # Arguments: the document, the program, and the folder that has `examples` and `station`, by default the sources. If
 # headings follow, only the sessions right below these are run.
 set -eu
 cd "$(dirname "$0")/.."
-document=$(realpath "${1:-docs/OPERATORS.md}")
+document=$(realpath "${1:-docs/NODE.md}")
 program=$(realpath "${2:-bin/echonet}")
 sources=$(realpath "${3:-.}")
 headings=("${@:4}")
@@ -17,8 +17,7 @@ place=$(mktemp -d)
 mkdir "$place/bin" "$place/empty"
 ln -s "$program" "$place/bin/echonet"
 ln -s "$sources" "$place/echonet"
-scripts=$(realpath "$sources/station")
-ln -s "$scripts/echonet-station" "$place/bin/echonet-station"
+ln -s "$(realpath "$sources/station/echonet-station")" "$place/bin/echonet-station"
 export HOME=$place PATH=$place/bin:$PATH:/usr/sbin LC_ALL=C
 
 # Ends the mailers of a session that did not end them.
@@ -33,7 +32,7 @@ cd "$place/empty"
 
 # Replaces what differs from day to day.
 alike() {
-  sed -E "s,$place/empty,/home/fido,g; s,$scripts,/usr/share/echonet,g; s,PATH=[^;]*; ,," |
+  sed -E "s,$place/empty,/home/fido,g; s,$place/bin/,/usr/bin/,g; s,PATH=[^;]*; ,," |
     sed -E 's/\b[0-9a-f]{8}\b/SERIAL/g; s/ [0-9]+s( ago)?$/ AGE/; s/[0-9]{4}-[0-9]{2}-[0-9]{2}[T ][0-9:]{8}/MOMENT/g
     s/[0-9]{2} [A-Z][a-z]{2} [0-9]{2}  [0-9:]{8}/DATE/g'
 }
@@ -80,6 +79,7 @@ while IFS= read -r line; do
       type_it
       if [ $wanted = no ]; then continue; fi
       command=${line#    \$ }
+      command=${command//\/usr\/share\/doc\/echonet/$sources}
       ;;
     '    '*) if [ -n "$command" ]; then expected=$expected${line#    }$'\n'; fi ;;
     *) type_it ;;

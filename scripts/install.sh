@@ -1,7 +1,7 @@
 #!/usr/bin/env bash
 # install.sh ROOT PREFIX: installs below ROOT and PREFIX. It copies both programs, their manual pages and shell
-# completions. It also copies the scripts of station, the tools of examples/move, the examples of packaging, and the
-# documents with their nets. Three tools also get a name in bin. The unit gets the paths below PREFIX. uninstall.sh
+# completions. It also copies the modules of echonet-station, the tools, the examples of packaging, and the documents
+# with their nets. Three tools also get a name in bin. The unit gets the paths below PREFIX. uninstall.sh
 # removes the same files.
 set -eu
 cd "$(dirname "$0")/.."
@@ -12,17 +12,15 @@ program=bin/echonet
 install -D -m 755 "$program" "$to/bin/echonet"
 install -d "$to/share/man/man1"
 install -m 644 docs/*.1 "$to/share/man/man1"
-install -d "$to/share/echonet/echonet_station" "$to/share/echonet/move" "$to/share/doc/echonet/pictures" "$to/share/doc/echonet/examples"
-install -m 755 station/*.sh station/jam-lock "$to/share/echonet"
-chmod 644 "$to/share/echonet/"{station,count,reading}.sh
+install -d "$to/share/echonet/echonet_station" "$to/share/echonet/fidonet" "$to/share/echonet/tools" "$to/share/doc/echonet/pictures" "$to/share/doc/echonet/examples"
 install -m 755 station/echonet-station "$to/share/echonet"
 install -m 644 station/echonet_station/*.py "$to/share/echonet/echonet_station"
+install -m 644 station/fidonet/*.py "$to/share/echonet/fidonet"
 ln -sfn ../share/echonet/echonet-station "$to/bin/echonet-station"
-install -m 644 station/printable.awk packaging/echonet.timer packaging/echonet.logrotate packaging/settings \
-  "$to/share/echonet"
-install -m 755 examples/move/{jam-to-packets,msg-to-packets,links-from,links-seen,net-page} "$to/share/echonet/move"
-install -m 644 examples/move/*.{py,css,js} "$to/share/echonet/move"
-for tool in links-from links-seen net-page; do ln -sf "../share/echonet/move/$tool" "$to/bin/$tool"; done
+install -m 644 packaging/echonet.timer packaging/echonet.logrotate packaging/settings "$to/share/echonet"
+install -m 755 tools/{jam-to-packets,msg-to-packets,links-from,links-seen,net-page} "$to/share/echonet/tools"
+install -m 644 tools/*.{py,css,js} "$to/share/echonet/tools"
+for tool in links-from links-seen net-page; do ln -sf "../share/echonet/tools/$tool" "$to/bin/$tool"; done
 prefix=$(printf '%s' "$2" | sed 's/[&|\]/\\&/g')
 sed "s|/usr/bin/|$prefix/bin/|g; s|/usr/share/|$prefix/share/|g" packaging/echonet.service \
   > "$to/share/echonet/echonet.service"
@@ -49,9 +47,9 @@ all_completions() {
   completions "$1" "$2" fish "fish/vendor_completions.d/$name.fish"
 }
 all_completions completions.sh "$program"
-for tool in links-from links-seen net-page; do all_completions tool_completions.sh "examples/move/$tool"; done
+for tool in links-from links-seen net-page; do all_completions tool_completions.sh "tools/$tool"; done
 if command -v python3 > /dev/null; then
   all_completions completions.sh station/echonet-station
   # Compiled modules start sooner. A package compiles them where it is installed.
-  if [ -z "$1" ]; then python3 -m compileall -q "$to/share/echonet/echonet_station"; fi
+  if [ -z "$1" ]; then python3 -m compileall -q "$to/share/echonet/echonet_station" "$to/share/echonet/fidonet"; fi
 fi

@@ -27,13 +27,19 @@ cd "$(dirname "$0")/.."
       if ((crate, other) in uses && below(other) > most) most = below(other)
     return belows[crate] = seconds[crate] + most
   }
-  # Counts the crates below one.
-  function count(top, crate, other) {
+  # The seconds of the crates that are neither above nor below one, so that they may be proved beside it.
+  function beside(crate, sum, other) {
     for (other in wanted)
-      if ((crate, other) in uses && !((top, other) in under)) { under[top, other]; number[top]++; count(top, other) }
+      if (other != crate && !((crate, other) in under) && !((other, crate) in under)) sum += seconds[other]
+    return sum
+  }
+  # Finds the crates below one.
+  function look(top, crate, other) {
+    for (other in wanted)
+      if ((crate, other) in uses && !((top, other) in under)) { under[top, other]; number[top]++; look(top, other) }
   }
   END {
-    for (crate in wanted) count(crate, crate)
+    for (crate in wanted) look(crate, crate)
     for (crate in seconds) { time += seconds[crate]; long += lines[crate] }
     for (crate in wanted)
       if (!(crate in seconds)) seconds[crate] = lines[crate] * (long ? time / long : 1)
@@ -41,9 +47,10 @@ cd "$(dirname "$0")/.."
       if (above(crate) > longest) longest = above(crate)
     for (crate in wanted) {
       chain = above(crate) + below(crate) - seconds[crate]
-      # Each process loads all crates below. So only crates of the longest chain with at most twelve crates below them
-      # get a second process.
-      processes = chain >= 0.95 * longest && number[crate] <= 12 ? 2 : 1
+      # Each process loads all crates below, and two take up to 1.6 times the seconds of one. So a crate gets a second
+      # one only if the longest chain waits for it alone, and it has at most twelve crates below.
+      is_alone = chain >= 0.95 * longest && beside(crate) < seconds[crate]
+      processes = is_alone && number[crate] <= 12 ? 2 : 1
       print above(crate), crate, processes, int(18 * (1 - above(crate) / longest))
     }
   }' | sort -k 1,1nr -k 2,2 | cut -d ' ' -f 2-

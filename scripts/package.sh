@@ -14,6 +14,7 @@ trap 'rm -rf "$root"' EXIT
 chmod 755 "$root"
 scripts/install.sh "$root" /usr
 gzip -9n "$root"/usr/share/man/man1/*.1
+install -m 644 packaging/copyright "$root/usr/share/doc/echonet"
 mkdir "$root/DEBIAN"
 install -m 755 packaging/postinst packaging/prerm "$root/DEBIAN"
 sed "s/VERSION/$version/; s/ARCHITECTURE/$architecture/; s/LIBC/$libc/; s/COMMIT/$commit/" packaging/control > "$root/DEBIAN/control"

@@ -12,8 +12,10 @@ import sys
 import time
 
 TOP = os.path.dirname(os.path.dirname(os.path.abspath(__file__)))
-# The sessions of docs/OPERATORS.md that need no mailer.
-HEADINGS = ["The files", "Link files", "Harm and pictures"]
+# The sessions of documents of a station that need no mailer.
+SESSIONS = {
+    "NODE": ["Harm and pictures"], "REFERENCE": ["Link files"],
+    "HUB": ["A downlink in five minutes", "AreaFix", "When a link is refused", "Away for a while", "What goes on", "The files"]}
 COUNTS = re.compile(r"(\d+) (?:checks )?passed, (\d+) failed|(\d+) commands printed what the document says, (\d+) did not")
 LONGEST = "60m"
 
@@ -31,12 +33,12 @@ def tests(program, cores):
     """Each test: its name and its command. Those that take longest come first."""
     nets = [("small nets, part %d of %d" % (part + 1, cores), ["python3", "trials/small_nets.py", str(part), str(cores)])
             for part in range(cores)]
-    scripts = [("net-test, folders", ["scripts/net-test.sh", program, "folders"]), ("net-test, files", ["scripts/net-test.sh", program])]
+    scripts = [("net-test, folders", ["station/tests/net-test.sh", program, "folders"]), ("net-test, files", ["station/tests/net-test.sh", program])]
     cases = [("cases, " + name, ["scripts/cases.sh", program, name]) for name in tables()]
-    return nets + scripts + cases + [
+    sessions = [(name, ["scripts/follow.sh", "docs/%s.md" % name, program, ".", *headings]) for name, headings in SESSIONS.items()]
+    return nets + scripts + cases + sessions + [
         ("story", ["examples/story.sh", program]), ("manual page", ["scripts/manual.sh", "docs/echonet.1", program]),
         ("README", ["scripts/follow.sh", "README.md", program]),
-        ("OPERATORS", ["scripts/follow.sh", "docs/OPERATORS.md", program, ".", *HEADINGS]),
         ("REPAIR", ["scripts/follow.sh", "docs/REPAIR.md", program]),
         ("show-examples", ["scripts/show_examples.sh", program])]
 

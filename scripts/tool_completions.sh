@@ -1,5 +1,5 @@
 #!/usr/bin/env bash
-# tool_completions.sh TOOL bash|zsh|fish: prints completions of a tool of examples/move. Its options are the words with
+# tool_completions.sh TOOL bash|zsh|fish: prints completions of a tool of tools/. Its options are the words with
 # two hyphens in the description at its beginning. Commands in backquotes have options of their own.
 set -eu
 name=$(basename "$1")

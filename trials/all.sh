@@ -31,6 +31,8 @@ for name in power_cuts unlucky odd_folders; do each python3 trials/$name.py & do
 each python3 trials/why.py &
 each python3 trials/assumed.py &
 each python3 trials/small_nets.py &
+each python3 trials/every_fault.py &
+each python3 trials/cures.py &
 each python3 trials/export.py &
 each python3 trials/stored.py &
 each python3 trials/jam.py &
@@ -47,6 +49,7 @@ each python3 trials/station_full.py &
 each python3 trials/station_kills.py &
 each python3 trials/station_repairs.py &
 each python3 trials/realnet.py &
+each python3 trials/hub_day.py &
 wait
 each python3 trials/mixed.py
 each python3 trials/stations.py 300 "$cores"

@@ -17,8 +17,8 @@ import sys
 import tempfile
 
 import export
-import making
-from contents import PROGRAM
+from lib import making
+from lib.contents import PROGRAM
 
 CODECS = {
     "ASCII": "ascii", "CP437": "cp437", "CP850": "cp850", "CP866": "cp866", "CP1251": "cp1251", "KOI8-R": "koi8_r",

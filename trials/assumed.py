@@ -12,10 +12,8 @@ import re
 import sys
 import tempfile
 
-import making
-import running
-import topologies
-from contents import PROGRAM, write
+from lib import making, running, topologies
+from lib.contents import PROGRAM, write
 
 
 def listers(told, tag, system):

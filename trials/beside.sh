@@ -7,7 +7,7 @@
 # only the two stations are tried. Arguments: `files` or `folders`, how many scans of the two stations.
 set -eu
 cd "$(dirname "$0")/.."
-. trials/setting.sh
+. trials/lib/setting.sh
 times=${1:-1000}
 cd "$work"
 

@@ -5,7 +5,7 @@
 # processes, how many postings each.
 set -eu
 cd "$(dirname "$0")/.."
-. trials/setting.sh
+. trials/lib/setting.sh
 processes=${1:-20}
 each=${2:-10}
 cd "$work"

@@ -1,12 +1,12 @@
 #!/usr/bin/env bash
-# What an operator meets every day, in the scripts of station/: times of postings in other readers, files that no run
+# What an operator meets every day with echonet-station: times of postings in other readers, files that no run
 # takes, what a mail of cron says, statuses of runs that cannot begin, names in `bad`, messages that an editor has not
-# finished, JAM bases without Python, and all areas of a reader in one run.
+# finished, and all areas of a reader in one run.
 set -eu
 cd "$(dirname "$0")/.."
-. trials/setting.sh
+. trials/lib/setting.sh
 export ECHONET=$program
-scripts=${SCRIPTS:-$top/station}
+tool=$top/station/echonet-station
 cd "$work"
 mkdir -p one/base
 printf 'SYSTEM 1:10/1\nNAME Alpha\nAREA TEST 1:10/2\nAREA NEWS 1:10/2\n' > one/links
@@ -16,9 +16,9 @@ run() {
   status=0
   "$@" > said 2> fault < /dev/null || status=$?
 }
-post() { echo "Body of $1" | "$scripts/post.sh" one "${2:-TEST}" All Ann "$1" > said; }
+post() { echo "Body of $1" | "$tool" one post "${2:-TEST}" All Ann "$1" > said; }
 last() { "$program" list one/base | tail -n 1; }
-toss() { run timeout 20 "$scripts/toss-inbound.sh" one; }
+toss() { run timeout 20 "$tool" one toss; }
 
 # The moment of the last message in seconds: its date less the offset of its TZUTC line, or else that of this zone.
 moment() {
@@ -42,26 +42,26 @@ stored() {
 for zone in IST-5:30 EST5 UTC0; do
   export TZ=$zone
   post "At the shell in $zone"
-  expect "post.sh in $zone: other readers show the moment" is_now
+  expect "post in $zone: other readers show the moment" is_now
   expect "with a line TZUTC" grep -q '^line .x01TZUTC: ' <("$program" list one/base | tail -n 8)
-  run "$scripts/reader.sh" one TEST one/msg
+  run "$tool" one read TEST one/msg
   offset=$(date +%z)
   stored one/msg/90.msg "In a folder in $zone" "${offset#+}"
-  run "$scripts/reader.sh" one TEST one/msg
-  expect "reader.sh in $zone posts" grep -q '^posted TEST' said
+  run "$tool" one read TEST one/msg
+  expect "read in $zone posts" grep -q '^posted TEST' said
   expect "with the time of its line TZUTC" is_now
   unset TZ
 done
 
 # The same in a JAM base: a message that an editor adds to an empty one. The fixed header is that of the run before.
-run "$scripts/reader.sh" --jam one NEWS one/jam
+run "$tool" one read --jam NEWS one/jam
 expect "an empty JAM base is made" [ "$status $(wc -c < one/jam.jhr)" = "0 1024" ]
 add_to_jam() { TOP=$top python3 -c 'import os, sys
 sys.path.insert(0, os.environ["TOP"] + "/trials")
 import jam_beside
 jam_beside.write_message(sys.argv[1], int(sys.argv[2]))' "$1" "$2"; }
 add_to_jam one/jam 1
-run env TZ=IST-5:30 "$scripts/reader.sh" --jam one NEWS one/jam
+run env TZ=IST-5:30 "$tool" one read --jam NEWS one/jam
 expect "a posting from a JAM base has the time of its zone" \
   eval 'TZ=IST-5:30 is_now && grep -q "^posted NEWS" said'
 
@@ -84,9 +84,8 @@ expect "all of them are tossed again" [ "$status $(ls one/bad | grep -ic 'pkt$')
 rm -rf one/bad
 
 # What a mail of cron says: the command of the guide, with these scripts.
-line=$(sed -n 's,^    \*/5 \* \* \* \* cd /home/fido/net && PATH=[^ ]* && ,,p' "$top/docs/OPERATORS.md" | sed 's/two/one/g')
+line=$(sed -n 's,^    \*/5 \* \* \* \* \(.*\),\1,p' "$top/docs/REFERENCE.md" | sed "s,/usr/bin/echonet-station,$tool,; s,/home/fido/net/two,one,")
 expect "the guide has a line for cron" [ -n "$line" ]
-cp "$scripts"/*.sh "$scripts/printable.awk" .
 cron() { sh -c "$line" > mail 2>&1 < /dev/null || true; }
 cron
 expect "nothing happened: no mail" [ ! -s mail ]
@@ -96,11 +95,11 @@ expect "a packet is put aside: the mail names it and its fault" grep -q '^put as
 cp one/links links
 echo FOO >> one/links
 cron
-expect "a refused link file: the mail has the fault and both statuses" \
-  [ "$(grep -c 'L1 UnknownWord' mail) $(grep -c 'toss.*status 2' mail) $(grep -c 'scan.*status 2' mail)" = "1 0 1" ]
+expect "a refused link file: the mail has the fault and the status" \
+  [ "$(grep -c 'L1 UnknownWord' mail) $(grep -c 'run: status 2' mail)" = "1 1" ]
 printf x > one/inbound/more.pkt
 cron
-expect "and that of a toss" [ "$(grep -c 'toss.*status 2' mail) $(grep -c 'scan.*status 2' mail)" = "1 1" ]
+expect "also of a toss" [ "$(grep -c 'L1 UnknownWord' mail) $(grep -c 'run: status 2' mail)" = "2 1" ]
 cp links one/links
 toss
 rm -rf one/bad one/scanned/* one/packets/* one/outbound/*
@@ -146,61 +145,44 @@ rm -rf blocked/inbound blocked/scanned
 touch blocked/inbound blocked/scanned
 cp -r one damaged
 echo 'INBOUND=(' > damaged/settings
-for shell in dash bash; do
-  for name in toss-inbound.sh scan-outbound.sh; do
-    for station in missing plain locked blocked damaged; do
-      run "$shell" "$scripts/$name" "$station"
-      expect "$name of $station by $shell" [ "$status $([ -s fault ] && echo told)" = "3 told" ]
-    done
-    run env TMPDIR="$work/missing" "$shell" "$scripts/$name" one
-    expect "$name without a folder for its files by $shell" [ "$status" = "$([ $name = toss-inbound.sh ] && echo 3 || echo 0)" ]
-    run "$shell" "$scripts/$name"
-    expect "$name without a station by $shell" [ $status = 4 ]
+for name in run toss scan; do
+  for station in missing plain locked blocked damaged; do
+    run "$tool" "$station" $name
+    expect "$name of $station" [ "$status $([ -s fault ] && echo told)" = "3 told" ]
   done
-  run "$shell" "$scripts/reader.sh" missing TEST one/read
-  expect "reader.sh of no station by $shell" [ "$status $([ -s fault ] && echo told)" = "3 told" ]
-  run env TMPDIR="$work/missing" "$shell" "$scripts/reader.sh" one TEST one/read
-  expect "reader.sh without a folder for its files by $shell" [ $status = 3 ]
-  run env TMPDIR="$work/missing" "$shell" "$scripts/post.sh" one TEST All Ann Hi
-  expect "post.sh without a folder for its files by $shell" [ $status = 3 ]
-  cp -r one unlinked
-  rm unlinked/links
-  run "$shell" "$scripts/scan-outbound.sh" unlinked
-  expect "a scan without a link file by $shell" [ "$status $(head -n 1 fault)" = "3 echonet: cannot use $work/unlinked/links" ]
-  rm -rf unlinked
+  run env TMPDIR="$work/missing" "$tool" one $name
+  expect "$name without a folder for its files" [ $status = 0 ]
 done
+run "$tool" missing read TEST one/read
+expect "read of no station" [ "$status $([ -s fault ] && echo told)" = "3 told" ]
+mkdir nowhere
+(cd nowhere && run "$tool" toss && [ "$status $(cat fault)" = "4 echonet-station: no station here: give its folder" ])
+expect "no station here" [ $? = 0 ]
+cp -r one unlinked
+rm unlinked/links
+run "$tool" unlinked scan
+expect "a scan without a link file" [ "$status $(head -n 1 fault)" = "3 echonet: cannot use $work/unlinked/links" ]
+rm -rf unlinked
 
 # A message that an editor has not finished waits, and is posted once it is.
 rm -rf one/msg
-run "$scripts/reader.sh" one TEST one/msg
+run "$tool" one read TEST one/msg
 stored one/msg/90.msg Unfinished 0000 ''
 before=$(last)
-run "$scripts/reader.sh" one TEST one/msg
+run "$tool" one read TEST one/msg
 expect "a message without its end waits, and is reported" \
   [ "$status $(last) $(grep -c '90.msg waits: it has no 00' fault)" = "0 $before 1" ]
 printf '\0' >> one/msg/90.msg
 touch one/msg/90.msg
-run "$scripts/reader.sh" one TEST one/msg
+run "$tool" one read TEST one/msg
 expect "it waits while it is younger than two seconds" [ "$status $(last) $(cat fault)" = "0 $before " ]
 touch -d '3 seconds ago' one/msg/90.msg
-run "$scripts/reader.sh" one TEST one/msg
+run "$tool" one read TEST one/msg
 expect "then it is posted" grep -q '^posted TEST' said
-
-# Without Python a JAM base is not touched, unless that is asked for.
-mkdir tools
-for tool in sh dash awk sed grep cut cat mv cp rm mkdir mktemp flock stat date touch find sort tail head od tr sync dirname basename cmp uniq; do
-  ln -s "$(command -v $tool)" tools/$tool
-done
-add_to_jam one/jam 3
-before="$(last) $(cksum < one/jam.jhr)"
-run env PATH="$work/tools" "$work/tools/sh" "$scripts/reader.sh" --jam one NEWS one/jam
-expect "without Python the run is refused" [ "$status $(grep -c unlocked fault) $(last) $(cksum < one/jam.jhr)" = "3 1 $before" ]
-run env PATH="$work/tools" "$work/tools/sh" "$scripts/reader.sh" --jam --unlocked one NEWS one/jam
-expect "with --unlocked it posts" grep -q '^posted NEWS' said
 
 # The mail of cron for a station with `peers`: what the gate puts aside, and letters that nobody takes.
 rm -rf peered
-"$scripts/echonet-station" peered new 1:10/1 Alpha 1:10/2 host secret TEST > said
+"$tool" peered new 1:10/1 Alpha 1:10/2 host secret TEST > said
 sed -i /ROUTE/d peered/peers
 peered=$(sed 's/one/peered/g' <<< "$line")
 printf 'PK\3\4damaged' > peered/inbound/0000ff9c.mo0
@@ -210,10 +192,10 @@ mkdir peered/netmail
 stored peered/netmail/2.msg Unrouted 0000
 printf '\012\0\011\0' | dd of=peered/netmail/2.msg bs=1 seek=166 conv=notrunc 2> fault
 touch -d '3 seconds ago' peered/netmail/2.msg
-PATH=$scripts:$PATH sh -c "$peered" > mail 2>&1 < /dev/null || true
+sh -c "$peered" > mail 2>&1 < /dev/null || true
 expect "the mail has what the gate put aside, and why" grep -q '^put aside 0000ff9c.mo0: gate: damaged' mail
 expect "and a letter that stays" grep -q '^keeps 2.msg ' mail
-expect "and both statuses" [ "$(grep -c 'toss: status 1' mail) $(grep -c 'scan: status 1' mail)" = "1 1" ]
+expect "and the status" grep -q '^run: status 1' mail
 
 # All areas of a reader by one run: three areas, of which the last is in a folder with a blank in its name.
 rm -rf one/base one/count one/msg one/jam*
@@ -227,7 +209,7 @@ chmod +x counted
 all() {
   sleep 2.1
   : > calls
-  run env ECHONET="$work/counted" "$scripts/reader.sh" one one/readers
+  run env ECHONET="$work/counted" "$tool" one read one/readers
 }
 for area in TEST NEWS ODD; do post "First of $area" "$area"; done
 all
@@ -256,7 +238,7 @@ expect "an unfinished message waits" [ "$status $(cat said) $(grep -c '90.msg wa
 printf '\0' >> one/read/test/90.msg
 all
 expect "and is posted once it is finished" [ "$status $(grep -c posted said)" = "0 1" ]
-run "$scripts/readers.sh" --areadef one one/readers
+run "$tool" one read --areadef one/readers
 expect "the lines for GoldED" [ "$status $(cat said)" = "0 AREADEF TEST \"TEST\" 0 Echo Opus $work/one/read/test
 AREADEF NEWS \"NEWS\" 0 Echo JAM $work/one/read/news
 AREADEF ODD \"ODD\" 0 Echo Opus $work/one/read/an odd one" ]
@@ -275,13 +257,13 @@ all
 expect "until it is good" [ "$status $(cat said)" = "0 NEWS: exported 1 messages, next 9" ]
 for line in 'TEST msg' 'TEST' 'TEST squish read/test' $'TEST msg read/\033test' 'TEST jam /'; do
   printf 'ODD msg read/fresh\n%s\n' "$line" > one/faulty
-  run "$scripts/readers.sh" one one/faulty
+  run "$tool" one read one/faulty
   expect "a faulty line: $line" [ "$status $(cat fault) $(ls one/read | grep -c fresh)" = \
     "2 one/faulty:2: expected TAG msg PATH or TAG jam PATH 0" ]
 done
-run "$scripts/readers.sh" one one/missing
+run "$tool" one read one/missing
 expect "a missing file of areas" [ $status = 3 ]
-run "$scripts/readers.sh" one
+run "$tool" one read
 expect "no file of areas" [ $status = 4 ]
 cp -r one/base kept
 truncate -s -1 one/base/messages.*
@@ -295,8 +277,8 @@ mv kept one/base
 for number in {1..6}; do
   post "At once $number" NEWS
   post "At once $number" TEST
-  for _ in 1 2 3; do "$scripts/reader.sh" one one/readers > said 2> fault & done
-  setsid "$scripts/reader.sh" one one/readers > said 2> fault & killed=$!
+  for _ in 1 2 3; do "$tool" one read one/readers > said 2> fault & done
+  setsid "$tool" one read one/readers > said 2> fault & killed=$!
   sleep "0.$((number * 7))"
   kill -9 -- -$killed 2> fault || true
   { wait $killed || true; } 2> fault
@@ -313,12 +295,12 @@ mkdir -p many/base
 { printf 'SYSTEM 1:10/1\n'; printf 'AREA A%s 1:10/2\n' {1..100}; } > many/links
 for number in {1..100}; do echo "A$number $([ $((number % 2)) = 0 ] && echo msg || echo jam) read/$number"; done > many/readers
 mkdir many/read
-echo Body | "$scripts/post.sh" many A7 All Ann Hi > said
-for _ in 1 2 3; do run "$scripts/reader.sh" many many/readers; done
+echo Body | "$tool" many post A7 All Ann Hi > said
+for _ in 1 2 3; do run "$tool" many read many/readers; done
 best=99999
 for _ in 1 2 3 4 5; do
   begin=$(date +%s%3N)
-  run "$scripts/reader.sh" many many/readers
+  run "$tool" many read many/readers
   taken=$(($(date +%s%3N) - begin))
   if [ $taken -lt $best ]; then best=$taken; fi
 done

@@ -1,11 +1,11 @@
 #!/usr/bin/env bash
-# Debian's binkd with its installed settings. Only the edits of docs/OPERATORS.md, paths and ports are changed.
+# Debian's binkd with its installed settings. Only the edits of docs/REFERENCE.md, paths and ports are changed.
 # Packets of a neighbour arrive. The command of the installed unit tosses and scans. The neighbour gets what was
 # posted. As root it runs as binkd's user. PORT is the first of the two ports, by default 24581.
 set -u
 cd "$(dirname "$0")/.."
 PATH=$PATH:/usr/sbin
-. trials/setting.sh
+. trials/lib/setting.sh
 if ! [ -e /etc/binkd/binkd.cfg ] || ! command -v binkd > /dev/null; then
   echo "debian: there is no binkd of Debian here"
   exit
@@ -21,7 +21,8 @@ as_ftn() { if [ "$(id -u)" = 0 ]; then setpriv --reuid ftn --regid ftn --clear-g
 
 # The neighbour is Alpha of the installed examples, the station is Beta in binkd's folder.
 cp -r "$share/doc/echonet/examples/net" "$work/net"
-cp "$share"/echonet/*.sh "$work/net"
+tool=$work/prefix/bin/echonet-station
+PATH=$work/prefix/bin:$PATH
 cd "$work/net"
 mkdir -p one/{base,inbound,outbound,strangers,partly} "$ftn"/{inb,outb,strangers,base}
 sed -i "s,24561,$port,; s,24562,$((port + 1))," one/binkd.conf
@@ -38,7 +39,7 @@ as_ftn binkd -q "$work/binkd.cfg" > "$work/two.out" 2>&1 &
 trap 'kill $(cat one/binkd.pid "$ftn/pid"); rm -rf "$work"' EXIT
 
 # The command of the unit, and the last line of a base.
-command=$(sed -n "s/^ExecStart=.bin.sh -c '\(.*\)'\$/\1/p" "$share/echonet/echonet.service" | sed "s,\\$\\$,\$,g; s,/var/spool/ftn,$ftn,g")
+command=$(sed -n "s/^ExecStart=//p" "$share/echonet/echonet.service" | sed "s,/var/spool/ftn,$ftn,g")
 unit() { as_ftn sh -c "umask 077; $command" > "$work/said" 2>&1; }
 has() { "$program" list "$1" | tail -1; }
 
@@ -49,14 +50,14 @@ is_sent() { [ -z "$(find one/outbound -name '*.?lo')" ]; }
 has_come() { [ "$(has one/base)" = "end 25 messages, 0 waiting" ]; }
 
 for number in {1..20}; do
-  echo "Body $number" | ./post.sh one TEST All Ann "Hi $number" > "$work/posted"
-  ./scan-outbound.sh one > "$work/scanned"
+  echo "Body $number" | "$tool" one post TEST All Ann "Hi $number" > "$work/posted"
+  "$tool" one scan > "$work/scanned"
 done
 wait_for is_sent
 unit
 expect "what came is tossed" [ "$? $(has "$ftn/base")" = "0 end 20 messages, 0 waiting" ]
 for number in {1..5}; do
-  echo "Body $number" | as_ftn "$share/echonet/post.sh" "$ftn" TEST All Bob "Ho $number" > "$work/posted"
+  echo "Body $number" | as_ftn "$tool" "$ftn" post TEST All Bob "Ho $number" > "$work/posted"
 done
 printf x > "$ftn/inb/cut.pkt"
 if [ "$(id -u)" = 0 ]; then chown ftn "$ftn/inb/cut.pkt"; fi

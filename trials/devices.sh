@@ -6,10 +6,10 @@
 # program begins are left out. So is brk: the system refuses it in a form that strace cannot give.
 set -eu
 cd "$(dirname "$0")/.."
-. trials/setting.sh
+. trials/lib/setting.sh
 command -v strace > /dev/null || { echo "devices: strace is not installed"; exit 0; }
 cd "$work"
-. "$top/trials/commands.sh"
+. "$top/trials/lib/commands.sh"
 
 # Runs a command under strace with more arguments for strace, and sets its status.
 traced() {

@@ -14,7 +14,7 @@ import tempfile
 import zipfile
 
 import stations
-from contents import TOP, read, write
+from lib.contents import TOP, read, write
 
 STATION = os.path.join(TOP, "station", "echonet-station")
 PASSWORDS = ("", "x", "SECRET", "lowerup", "!#$%&()*", "12345678")

@@ -14,9 +14,8 @@ import subprocess
 import sys
 import tempfile
 
-import making
-import reading
-from contents import PROGRAM, TOP
+from lib import making, reading
+from lib.contents import PROGRAM, TOP
 
 CHARSETS = {
     b"ASCII": "ASCII", b"CP437": "CP437", b"CP850": "CP850", b"CP866": "CP866", b"CP1251": "CP1251",

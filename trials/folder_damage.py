@@ -15,9 +15,9 @@ import random
 import sys
 import tempfile
 
-import making
-from contents import content_of, write
-from folder_station import (COMMANDS, MOMENT, converted, copy_of, expect, filled_station, finish, is_orderly,
+from lib import making
+from lib.contents import content_of, write
+from lib.folder_station import (COMMANDS, MOMENT, converted, copy_of, expect, filled_station, finish, is_orderly,
                             new_station, run)
 
 

@@ -18,9 +18,9 @@ import subprocess
 import sys
 import tempfile
 
-import making
-from contents import PROGRAM
-from folder_station import (COMMANDS, converted, copy_of, expect, filled_station, finish, is_orderly, new_station,
+from lib import making
+from lib.contents import PROGRAM
+from lib.folder_station import (COMMANDS, converted, copy_of, expect, filled_station, finish, is_orderly, new_station,
                             packets_in, run)
 
 CHANGES = ("fsync", "fdatasync", "ftruncate", "link", "linkat", "unlink", "unlinkat", "rename", "pwrite64")

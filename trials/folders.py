@@ -16,9 +16,9 @@ import subprocess
 import sys
 import tempfile
 
-import making
-from contents import PROGRAM, content_of, write
-from folder_station import COMMANDS, MOMENT, converted, expect, filled_station, finish, new_station, packets_in, run
+from lib import making
+from lib.contents import PROGRAM, content_of, write
+from lib.folder_station import COMMANDS, MOMENT, converted, expect, filled_station, finish, new_station, packets_in, run
 
 
 class Pair:

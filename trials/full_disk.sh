@@ -6,7 +6,7 @@
 # limits of a file's size are tried.
 set -eu
 cd "$(dirname "$0")/.."
-. trials/setting.sh
+. trials/lib/setting.sh
 limits=${1:-20}
 cd "$work"
 

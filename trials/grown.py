@@ -11,10 +11,8 @@ import sys
 import tempfile
 import time
 
-import growing
-import making
-import running
-from contents import PROGRAM, TOP
+from lib import growing, making, running
+from lib.contents import PROGRAM, TOP
 
 MOST_RATIO = 2.5
 # With less than these seconds a ratio means nothing.

@@ -11,11 +11,8 @@ import sys
 import tempfile
 import time
 
-import laws
-import reading
-import running
-import small
-from contents import PROGRAM, TOP
+from lib import laws, reading, running, small
+from lib.contents import PROGRAM, TOP
 
 EXAMPLES = os.path.join(TOP, "examples")
 SEED = "echonet"

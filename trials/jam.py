@@ -19,8 +19,8 @@ import time
 import zlib
 
 import export
-import making
-from contents import PROGRAM, read, write
+from lib import making
+from lib.contents import PROGRAM, read, write
 
 ENDS = (".jhr", ".jdt", ".jdx", ".jlr")
 GONE, DELETED, ECHOMAIL, LOCAL, SENT = 0xffffffff, 1 << 31, 1 << 24, 1, 16

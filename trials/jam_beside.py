@@ -1,7 +1,7 @@
-"""Runs `reader.sh --jam` while a program posts into the same JAM base under the lock of JAM programs.
+"""Runs `read --jam` while a program posts into the same JAM base under the lock of JAM programs.
 
 The program locks the first byte of PATH.jhr by fcntl, as JAM-001 programs do. It writes 500 messages, every other one
-with an id of the station. At the same time the station posts its own messages, and reader.sh runs 60 times. At the
+with an id of the station. At the same time the station posts its own messages, and `read` runs 60 times. At the
 end the JAM base has each of the 500 once, marked as Sent, and each was posted once. It has each message of the
 station once, and the counts are right. A run that finds the lock held changes nothing. Arguments: how many messages,
 how many runs.
@@ -17,9 +17,9 @@ import threading
 import time
 
 import jam
-from contents import TOP
+from lib.contents import TOP
 
-READER = os.path.join(TOP, "station", "reader.sh")
+STATION = os.path.join(TOP, "station", "echonet-station")
 OWN = 1 << 24
 
 
@@ -58,12 +58,12 @@ def write_message(path, number):
 
 
 def reader(place):
-    """A run of the script."""
-    words = [READER, "--jam", os.path.join(place, "one"), "TEST", os.path.join(place, "jam")]
+    """A run of the reader."""
+    words = [STATION, os.path.join(place, "one"), "read", "--jam", "TEST", os.path.join(place, "jam")]
     done = subprocess.run(words, stdout=subprocess.PIPE, stderr=subprocess.STDOUT, check=False,
                           env=dict(os.environ, ECHONET=jam.PROGRAM))
     if done.returncode != 0:
-        sys.exit("reader.sh: %d\n%s" % (done.returncode, done.stdout.decode("latin-1")))
+        sys.exit("read: %d\n%s" % (done.returncode, done.stdout.decode("latin-1")))
 
 
 def post(place, number):
@@ -91,7 +91,7 @@ def try_held(place):
     """A run that finds the lock held changes nothing, and ends with 3."""
     path = os.path.join(place, "jam")
     files = jam.contents(path)
-    words = [os.path.join(os.path.dirname(READER), "jam-lock"), path + ".jhr", "true"]
+    words = [STATION, os.path.join(place, "one"), "read", "--jam", "TEST", path]
     with open(path + ".jhr", "r+b") as file:
         fcntl.lockf(file, fcntl.LOCK_EX, 1, 0)
         begun = time.time()

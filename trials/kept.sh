@@ -3,7 +3,7 @@
 # fault, the last printed line.
 set -eu
 cd "$(dirname "$0")/.."
-. trials/setting.sh
+. trials/lib/setting.sh
 kept=$top/examples/hostile
 cd "$work"
 make_file links 1:10/1 TEST 1:10/2 1:10/3 1:10/4 > one.links

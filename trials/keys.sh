@@ -1,15 +1,15 @@
 #!/usr/bin/env bash
 # Tags and serials that an attacker chose for their hashes. The runs are `check` of a link file with 20,000 areas, a
 # list of 20,000 links, and a script of 10,000 postings. Each takes at most three times as long as with other names.
-# It needs a C compiler, which compiles the maker of the names (trials/keys.c).
+# It needs a C compiler, which compiles the maker of the names (trials/lib/keys.c).
 set -eu
 cd "$(dirname "$0")/.."
-. trials/setting.sh
+. trials/lib/setting.sh
 if ! command -v cc > /dev/null; then
   echo "keys: there is no C compiler here"
   exit 0
 fi
-cc -O2 -o "$work/keys" trials/keys.c
+cc -O2 -o "$work/keys" trials/lib/keys.c
 cd "$work"
 
 # The least processor time of three runs, in hundredths of a second. Arguments: the run. A run that does not end with

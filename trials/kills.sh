@@ -2,10 +2,10 @@
 # Kills `toss` and `scan` at many times on a large base. Then, with strace, it kills them at each of their calls of
 # the system on a small base. After each kill the base is the old one or the new one. No packet is incomplete, or has
 # its name before the cursor was moved. The story run to its end files every message once. All files are compared with
-# those that trials/make.py computes. Arguments: `files` or `folders`, how many times, how many messages the base has.
+# those that trials/lib/make.py computes. Arguments: `files` or `folders`, how many times, how many messages the base has.
 set -eu
 cd "$(dirname "$0")/.."
-. trials/setting.sh
+. trials/lib/setting.sh
 moments=${1:-100}
 many=${2:-100000}
 cd "$work"

@@ -17,13 +17,11 @@ import tempfile
 import time
 from collections import Counter
 
-import making
-import reading
-import topologies
-from contents import PROGRAM, TOP, read, write
+from lib import making, reading, topologies
+from lib.contents import PROGRAM, TOP, read, write
 from jam import crashmail_settings
 
-SEEN = os.path.join(TOP, "examples", "move", "links-seen")
+SEEN = os.path.join(TOP, "tools", "links-seen")
 DAY, STAMP = "2026-07-03", "2026-07-03T12:34:56"
 
 

@@ -1,20 +1,20 @@
 #!/usr/bin/env bash
-# The scripts of station in an unlucky world. A mailer may receive names that are not UTF-8, very long names, and
+# echonet-station in an unlucky world. A mailer may receive names that are not UTF-8, very long names, and
 # names that would steer a terminal. It may receive a folder, a pipe, a link to nothing, and a packet that needs more
-# memory than there is. The packets after it are tossed. Also: a scan whose script alone is killed, a flow file that
+# memory than there is. The packets after it are tossed. Also: a scan whose caller alone is killed, a flow file that
 # cannot be written, and holds of processes that have ended. Also what a power cut leaves, and a log that cannot be
 # written.
 set -eu
 cd "$(dirname "$0")/.."
-. trials/setting.sh
+. trials/lib/setting.sh
 export ECHONET=$program
 cp -r "$top"/examples/net/{one,two} "$work"
 cd "$work"
-scripts=$top/station
+tool=$top/station/echonet-station
 
-post() { echo "Body of $1" | "$scripts/post.sh" one TEST All Ann "$1" > said; }
-scan() { timeout 20 "$scripts/scan-outbound.sh" one; }
-toss() { timeout 20 "$scripts/toss-inbound.sh" two; }
+post() { echo "Body of $1" | "$tool" one post TEST All Ann "$1" > said; }
+scan() { timeout 20 "$tool" one scan; }
+toss() { timeout 20 "$tool" two toss; }
 run() {
   status=0
   "$@" > said 2> fault || status=$?
@@ -37,7 +37,7 @@ mkfifo two/inbound/8.pkt
 ln -s nowhere two/inbound/A.pkt
 run toss
 expect "all that can be tossed is" [ "$status $(filed)" = "1 end 5 messages, 5 waiting" ]
-expect "each packet has its line in the log" [ "$(cut -d ' ' -f 2 two/log | sort | uniq -c | xargs)" = "4 aside 6 came" ]
+expect "each packet has its line in the log" [ "$(cut -d ' ' -f 2 two/log | sort | uniq -c | xargs)" = "4 aside 6 came 1 known" ]
 expect "nothing in the log steers the terminal" [ -z "$(LC_ALL=C tr -d ' -~\n' < two/log)" ]
 expect "nothing is left" [ -z "$(ls two/inbound two/tossing | grep pkt)" ]
 expect "what cannot lies apart" [ "$(ls two/bad | grep -c 'pkt$')" = 4 ]
@@ -50,7 +50,7 @@ mkdir -p starved/inbound
 cp one/links starved
 make_file packet 1000 150 1000000 > starved/inbound/0.pkt
 make_file packet 5000 1 200 > starved/inbound/1.pkt
-run bash -c 'ulimit -v 100000; timeout 60 "$0" starved' "$scripts/toss-inbound.sh"
+run bash -c 'ulimit -v 100000; timeout 60 "$0" starved toss' "$tool"
 expect "a packet without memory lies apart" grep -q -e 'P7 ' -e 'C2 ' -e 'out of memory' starved/bad/0.pkt.why
 expect "and the one behind it is tossed" [ "$status $(ls starved/inbound starved/tossing | grep -c pkt)" = "1 0" ]
 
@@ -67,11 +67,11 @@ cp links two/links
 run toss
 expect "the packet was kept" [ "$status $(filed)" = "0 end 6 messages, 6 waiting" ]
 
-# The script is killed and its scan runs on. The next run waits for it.
+# The caller is killed and its scan runs on. The next run waits for it.
 printf '#!/bin/sh\nsleep 2\nexec "%s" "$@"\n' "$program" > slow
 chmod +x slow
 post Third
-ECHONET=$PWD/slow "$scripts/scan-outbound.sh" one > said 2> fault & killed=$!
+ECHONET=$PWD/slow "$tool" one scan > said 2> fault & killed=$!
 sleep 1
 kill -9 $killed
 wait $killed 2> fault || true
@@ -115,13 +115,18 @@ expect "and no hold is left" is_none $flow.bsy "$(find one/outbound -name '*hold
 
 # A scan that is killed while it holds a link. After a power cut its hold may be empty, or have the number of another
 # process.
-mkdir tools
-printf '#!/bin/sh\nkill -9 $PPID\n' > tools/chmod
-chmod +x tools/chmod
 lines=4
+killed_scan() {
+  python3 -c 'import os, sys
+sys.path.insert(0, sys.argv.pop(1))
+from echonet_station.disk import Disk
+from echonet_station.start import main
+Disk.set_mode = lambda *_: os.kill(os.getpid(), 9)
+main(sys.argv[1:])' "$(dirname "$tool")" one scan
+}
 for left in '' $$; do
   post "Held by $left"
-  { run env PATH="$work/tools:$PATH" "$scripts/scan-outbound.sh" one; } 2> killed
+  { run killed_scan; } 2> killed
   expect "a killed scan leaves its hold" [ "$status $(ls one/scanned | wc -l) $(ls one/outbound | grep -c 'bsy$')" = "137 1 1" ]
   printf '%s' "$left" > $flow.bsy
   run scan
@@ -146,23 +151,6 @@ run scan
 expect "a packet with both names is handed over once" [ "$status $(wc -l < $flow.flo) $(ls one/packets | wc -l)" = "0 $lines $packets" ]
 expect "it keeps the new one, and the link is let go" [ "$(ls one/scanned one/outbound | xargs)" = "one/outbound: 000a0002.flo one/scanned:" ]
 
-# The files that the next run needs are on the disk before it goes on: `sync` is called for them.
-printf '#!/bin/sh\nfor file; do echo "${file##*/} $(ls "${file%%/*}" | grep -c "bsy$\\|pkt$")"; done >> "%s"\nexec %s "$@"\n' \
-  "$work/synced" "$(command -v sync)" > tools/sync
-rm tools/chmod
-chmod +x tools/sync
-rm -f one/packets/* $flow.flo
-post Eighth
-run env PATH="$work/tools:$PATH" "$scripts/scan-outbound.sh" one
-expect "a hold is on the disk before it has its name" grep -qx '.*hold 0' synced
-expect "so is the last name, and the line before its packet moves" [ "$(grep -c '^last-name.new\|^000a0002.flo.new\|^outbound ' synced)" = 3 ]
-rm -rf two/bad
-mv one/packets/*.pkt two/inbound/good.pkt
-head -c 100 two/inbound/good.pkt > two/inbound/cut.pkt
-run env PATH="$work/tools:$PATH" "$scripts/toss-inbound.sh" two
-expect "names are on the disk before packets move" [ "$(grep -cx '0000000[12].name 0' synced)" = 2 ]
-expect "a reason is before its packet moves" grep -qx 'cut.pkt.why 0' synced
-
 # Packets in `tossing` without a name, or with a name that a power cut damaged, and one that is no number.
 rm -rf two/bad
 for name in 00000007 00000009 zzz; do head -c 100 one/base > two/tossing/$name.pkt; done
@@ -178,22 +166,6 @@ printf x > two/inbound/new.pkt
 run toss
 expect "no packet takes the number of another" [ "$status $(cd two/bad && ls *.pkt | xargs)" = "1 00000001.pkt new.pkt zzz.pkt" ]
 
-# A program that the script calls has no memory. No packet counts as filed.
-rm -rf two/bad one/packets $flow.flo
-post Unfiled
-run scan
-mv one/packets/*.pkt two/inbound/
-cp two/links links
-sed -i 's, 1:10/1,,' two/links
-for tool in grep awk; do printf '#!/bin/sh\necho "%s: memory exhausted" >&2\nexit 2\n' $tool > tools/$tool; done
-chmod +x tools/*
-run env PATH="$work/tools:$PATH" "$scripts/toss-inbound.sh" two
-expect "a packet stays if nothing is known of it" [ "$status $(ls two/tossing | grep -c pkt)" = "2 1" ]
-rm -rf tools
-cp links two/links
-run toss
-expect "and is tossed by the next run" [ "$status $(ls two/tossing two/bad | grep -c pkt)" = "0 0" ]
-
 # A log that cannot be written stops nothing, and is reported.
 rm -rf one/packets two/log one/log $flow.flo
 mkdir two/log one/log
@@ -206,7 +178,7 @@ run toss
 expect "a toss without a log" [ "$status $(ls two/inbound two/tossing | grep -c pkt)" = "3 0" ]
 expect "files all the same" [ "$before" != "$(filed)" ]
 
-# A user who may not read the link file and the base cannot hold their locks: the modes of docs/OPERATORS.md.
+# A user who may not read the link file and the base cannot hold their locks: the modes of docs/REFERENCE.md.
 if [ "$(id -u)" = 0 ] && command -v setpriv > /dev/null; then
   chmod 755 "$work" one
   chmod 644 one/links

@@ -1,4 +1,4 @@
-"""Many commands at once on one station, some of them killed at any time. Then judge.py looks at the result.
+"""Many commands at once on one station, some of them killed at any time. Then lib/judge.py looks at the result.
 
 The commands post, toss, scan, purge, list, export and convert, on a base file and on a base folder. They run alone,
 while the base is converted to the other kind under the lock of the link file, and while the link file is replaced.
@@ -14,11 +14,11 @@ import tempfile
 import threading
 import time
 
-from contents import PROGRAM
-from judge import LINKS, Judge, Message, files_of, number_of, texts_of
+from lib.contents import PROGRAM
+from lib.judge import LINKS, Judge, Message, files_of, number_of, texts_of
 
 CHANCES = {"post": 8, "toss": 4, "scan": 4, "purge": 2, "list": 2, "mbox": 1, "convert": 1}
-# The commands of docs/OPERATORS.md, in both directions.
+# The commands of docs/REFERENCE.md, in both directions.
 MOVE = """if [ -d base ]; then rm -f new; else rm -rf new && mkdir new; fi &&
   "$0" convert base new && mv base base.old && mv new base && rm -rf base.old"""
 

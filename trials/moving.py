@@ -1,4 +1,4 @@
-"""Moves a station of CrashMail II to echonet with examples/move, and back, by the commands in docs/INTEROP.md.
+"""Moves a station of CrashMail II to echonet with tools, and back, by the commands in docs/INTEROP.md.
 
 CrashMail tosses packets that are made here, with some messages twice, and postings of crashwrite. It files them in a
 JAM base and in a folder of *.MSG. The base of the new station has to have each message once, in that order, with its
@@ -14,14 +14,13 @@ import sys
 import tempfile
 import time
 
-import making
-import reading
+from lib import making, reading
 import stored
-from contents import PROGRAM, TOP, read, write
+from lib.contents import PROGRAM, TOP, read, write
 from jam import crashmail_settings
 from readers import expect
 
-MOVE = os.path.join(TOP, "examples", "move")
+MOVE = os.path.join(TOP, "tools")
 OWN, LINKS, NOBODY = (1, 10, 2), ((1, 10, 1), (1, 10, 3)), (1, 10, 30000)
 AREAS = (b"JTEST", b"MTEST")
 LETTERS = b"abcXYZ 019 .,:;<>()@[]=?_\"\\'-" + bytes(range(128, 256))

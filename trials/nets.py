@@ -9,9 +9,8 @@ import shutil
 import sys
 import tempfile
 
-import making
-import running
-from contents import PROGRAM, TOP
+from lib import making, running
+from lib.contents import PROGRAM, TOP
 
 MOST_RATIO, LEAST_SECONDS = 2.5, 0.2
 

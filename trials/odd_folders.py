@@ -12,9 +12,9 @@ import subprocess
 import sys
 import tempfile
 
-from contents import PROGRAM, content_of, write
-from folder_station import COMMANDS, HELD, filled_station, finish, is_orderly, packets_in
-from judge import texts_of
+from lib.contents import PROGRAM, content_of, write
+from lib.folder_station import COMMANDS, HELD, filled_station, finish, is_orderly, packets_in
+from lib.judge import texts_of
 
 READING = {"list": ("list", "base"), "export": ("export", "base"), "convert": ("convert", "base", "made")}
 EVERY = {**READING, **COMMANDS}

@@ -3,7 +3,7 @@
 # also installs the package by dpkg under a fresh root, and runs the program there.
 set -u
 cd "$(dirname "$0")/.."
-. trials/setting.sh
+. trials/lib/setting.sh
 root=$work
 
 # Arguments: what is tried, the found text, the wanted text.
@@ -20,11 +20,11 @@ make -s install DESTDIR="$root/one" PREFIX=/usr > /dev/null || exit 1
 for file in bin/echonet bin/echonet-station share/man/man1/echonet.1 share/man/man1/echonet-station.1 \
   share/echonet/echonet-station share/echonet/echonet_station/{start,gate,unpacking}.py \
   share/bash-completion/completions/echonet-station share/zsh/site-functions/_echonet-station \
-  share/fish/vendor_completions.d/echonet-station.fish share/echonet/{post,reader,readers,reading,toss-inbound,scan-outbound,station,count}.sh \
-  share/echonet/{jam-lock,printable.awk,echonet.service,echonet.timer,echonet.logrotate,settings} share/doc/echonet/{README,OPERATORS,FORMATS}.md \
+  share/fish/vendor_completions.d/echonet-station.fish share/echonet/fidonet/{packets,stored}.py \
+  share/echonet/{echonet.service,echonet.timer,echonet.logrotate,settings} share/doc/echonet/{README,NODE,FORMATS}.md \
   share/bash-completion/completions/echonet share/zsh/site-functions/_echonet \
-  share/fish/vendor_completions.d/echonet.fish share/echonet/move/{packets.py,net-page.css,net-page.js} \
-  {bin/,share/echonet/move/,share/bash-completion/completions/,share/zsh/site-functions/_}{links-from,links-seen,net-page} \
+  share/fish/vendor_completions.d/echonet.fish share/echonet/tools/{forms.py,net-page.css,net-page.js} \
+  {bin/,share/echonet/tools/,share/bash-completion/completions/,share/zsh/site-functions/_}{links-from,links-seen,net-page} \
   share/man/man1/{links-from,links-seen,net-page}.1 share/fish/vendor_completions.d/{links-from,links-seen,net-page}.fish; do
   check "$file is there" "$([ -s "$root/one/usr/$file" ] && echo yes)" yes
 done
@@ -32,7 +32,7 @@ for folder in net nets; do
   check "examples/$folder" "$(diff -r "examples/$folder" "$root/one/usr/share/doc/echonet/examples/$folder" && echo same)" same
 done
 for tool in jam msg; do
-  check "$tool-to-packets" "$("$root/one/usr/share/echonet/move/$tool-to-packets" 2>&1; echo $?)" \
+  check "$tool-to-packets" "$("$root/one/usr/share/echonet/tools/$tool-to-packets" 2>&1; echo $?)" \
     "usage: $tool-to-packets FROM TO TAG PATH > PACKET"$'\n4'
 done
 for tool in links-from links-seen net-page; do
@@ -75,7 +75,7 @@ for command in $commands; do
 done
 check 'a program that fails completes nothing' "$(scripts/completions.sh /bin/false bash 2>&1; echo $?)" 1
 
-# The same of echonet-station, whose command is the second word.
+# The same of echonet-station, whose command is the first word, or the second one after the folder of a station.
 station_complete() {
   bash -c '. "$1"; shift; COMP_WORDS=(echonet-station "$@"); COMP_CWORD=$#; _echonet_station; printf "%s\n" "${COMPREPLY[@]}"' \
     - "$root/one/usr/share/bash-completion/completions/echonet-station" "$@" | sort
@@ -84,26 +84,32 @@ tool=$root/one/usr/bin/echonet-station
 commands=$("$tool" --help | sed -n '/^Commands:/,/^$/s/^  \([a-z]*\) .*/\1/p')
 check 'there are words' "$([ "$(wc -w <<< "$commands")" -ge 13 ] && echo yes)" yes
 check 'words' "$(station_complete one '')" "$(sort <<< "$commands")"
+mkdir -p "$root/folders/one" "$root/folders/net"
+check 'words in front' "$(cd "$root/folders/one" && station_complete '')" "$(printf '%s\n' $commands --help --version | sort)"
 for command in $commands; do
-  check "options of echonet-station $command" "$(station_complete one "$command" --)" \
-    "$(options_of "$("$tool" "$command" --help)")"
+  wanted=$(options_of "$("$tool" "$command" --help)")
+  check "options of echonet-station $command" "$(station_complete one "$command" --)" "$wanted"
+  check "options of $command in front" "$(station_complete "$command" --)" "$wanted"
 done
-mkdir -p "$root/folders/one"
 check 'folders of stations' "$(cd "$root/folders" && station_complete o)" one
+check 'a folder with the name of a command' "$(cd "$root/folders" && station_complete net status --)" "$(station_complete status --)"
+check 'a command with the name of a folder' "$(cd "$root/folders" && station_complete net --)" --help
 echo text > "$root/some file"
 check 'files' "$(cd "$root" && complete show some)" 'some file'
 
-# The scripts find the files in their folder.
+check "no script is installed" "$(find "$root/one" -name "*.sh")" ""
+
+# echonet-station finds its modules.
 mkdir -p "$root/station"
 printf 'SYSTEM 1:10/1\nNAME Alpha\nAREA TEST 1:10/2\n' > "$root/station/links"
-posted=$(echo Hello | PATH=$root/one/usr/bin:$PATH "$root/one/usr/share/echonet/post.sh" "$root/station" TEST All Ann Hi)
+posted=$(echo Hello | PATH=$root/one/usr/bin:$PATH "$root/one/usr/bin/echonet-station" "$root/station" post TEST All Ann Hi)
 check 'a posting' "${posted% *}" 'posted TEST 1:10/1'
-check 'a scan' "$(PATH=$root/one/usr/bin:$PATH "$root/one/usr/share/echonet/scan-outbound.sh" "$root/station" | cut -d ' ' -f 1-3)" 'packet 1:10/2 1'
-check 'a toss' "$(PATH=$root/one/usr/bin:$PATH "$root/one/usr/share/echonet/toss-inbound.sh" "$root/station"; echo $?)" 0
+check 'a scan' "$(PATH=$root/one/usr/bin:$PATH "$root/one/usr/bin/echonet-station" "$root/station" scan | cut -d ' ' -f 1-3)" 'packet 1:10/2 1'
+check 'a toss' "$(PATH=$root/one/usr/bin:$PATH "$root/one/usr/bin/echonet-station" "$root/station" toss; echo $?)" 0
 
 # The sessions of the guide, from the installed examples.
 if command -v binkd > /dev/null || [ -x /usr/sbin/binkd ]; then
-  for guide in OPERATORS REPAIR; do
+  for guide in NODE HUB REFERENCE REPAIR; do
     scripts/follow.sh "docs/$guide.md" bin/echonet "$root/one/usr/share/doc/echonet" > "$root/followed"
     check "the guide $guide" "$? $(tail -1 "$root/followed" | cut -d , -f 2)" '0  0 did not'
   done
@@ -117,13 +123,13 @@ check 'nothing is left' "$(files "$root/one")" ''
 make -s install DESTDIR= PREFIX="$root/here" > /dev/null || exit 1
 share=$root/here/share/echonet
 check 'paths of the unit' "$(grep -o '[^ =]*/[a-z]*/echonet[^ ;]*' "$share/echonet.service" | sort -u)" \
-  "$(printf '%s\n' "$root/here/bin/echonet" "$share/scan-outbound.sh" "$share/toss-inbound.sh" | sed "s|^\($share/toss\)|'\1|" | sort -u)"
+  "$(printf '%s\n' "$root/here/bin/echonet" "$root/here/bin/echonet-station")"
 mkdir -p "$root/ftn/inb" "$root/ftn/outb"
 cp "$root/station/links" "$root/ftn"
 sed "s|/var/spool/ftn|$root/ftn|" "$share/settings" > "$root/ftn/settings"
 printf x > "$root/ftn/inb/cut.pkt"
-echo Hello | ECHONET=bin/echonet "$share/post.sh" "$root/ftn" TEST All Ann Hi > "$root/said"
-command=$(sed -n 's/^ExecStart=//p' "$share/echonet.service" | sed "s|\\$\\$|\$|g; s|/var/spool/ftn|$root/ftn|g")
+echo Hello | ECHONET=bin/echonet "$root/here/bin/echonet-station" "$root/ftn" post TEST All Ann Hi > "$root/said"
+command=$(sed -n 's/^ExecStart=//p' "$share/echonet.service" | sed "s|/var/spool/ftn|$root/ftn|g")
 (PATH=/usr/bin:/bin; ECHONET=$(sed -n 's/^Environment=ECHONET=//p' "$share/echonet.service"); export PATH ECHONET; eval "$command") \
   > "$root/said" 2>&1
 check 'the unit ends with the status of the toss' "$?" 1
@@ -131,7 +137,7 @@ check 'the scan has run' "$(cut -d ' ' -f 2,4,5 "$root/ftn/log" | xargs)" 'aside
 check 'into the folders of binkd' "$(cut -c 1-6 "$root/ftn/outb/000a0002.flo"; ls "$root/ftn/inb")" "$(cut -c 1-6 <<< "^$root")"
 for prefix in /usr/local '/srv/a&b'; do
   make -s install DESTDIR="$root/two" PREFIX="$prefix" > /dev/null || exit 1
-  check "the unit below $prefix" "$(grep -c "$prefix/bin/echonet\|$prefix/share/echonet/toss.*$prefix/share/echonet/scan" \
+  check "the unit below $prefix" "$(grep -c "=$prefix/bin/echonet\(-station /var/spool/ftn run\)\?$" \
     "$root/two$prefix/share/echonet/echonet.service")" 2
 done
 rm -rf "$root/two"
@@ -151,9 +157,10 @@ if command -v dpkg-deb > /dev/null; then
   check 'the commit in the package' "$(dpkg-deb -f "$package" Commit)" "$(sed -n 's/^commit //p' <<< "$made")"
   command -v objdump > /dev/null && check 'the C library that it needs' "$(dpkg-deb -f "$package" Depends)" \
     "libc6 (>= $(objdump -T bin/echonet | grep -o 'GLIBC_[0-9.]*' | cut -d _ -f 2 | sort -V | tail -1))"
-  check 'the package has what is installed' \
-    "$(dpkg-deb -c "$package" | awk '$1 !~ /^d/ { print $6 }' | grep -c .)" \
-    "$(make -s install DESTDIR="$root/two" PREFIX=/usr > /dev/null; files "$root/two" | grep -c .)"
+  make -s install DESTDIR="$root/two" PREFIX=/usr > /dev/null
+  check 'the package has what is installed, and the copyright' \
+    "$(dpkg-deb -c "$package" | awk '$1 !~ /^d/ { print $6 }' | sort)" \
+    "$({ files "$root/two" | sed 's|/man1/.*|&.gz|'; echo ./usr/share/doc/echonet/copyright; } | sort)"
   if [ "$(id -u)" -eq 0 ]; then
     fresh=$root/fresh
     mkdir -p "$fresh"/var/lib/dpkg/{info,updates,triggers} "$fresh/tmp"

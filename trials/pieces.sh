@@ -4,9 +4,9 @@
 # and writes: its status, its output, the base and the packets.
 set -eu
 cd "$(dirname "$0")/.."
-. trials/setting.sh
+. trials/lib/setting.sh
 cd "$work"
-. "$top/trials/commands.sh"
+. "$top/trials/lib/commands.sh"
 make_loaded pieces
 
 # Runs it and compares it with the run with whole calls.

@@ -1,13 +1,13 @@
-"""Cuts the power under the program and the scripts of station, and judges what the disk has then.
+"""Cuts the power under the program and echonet-station, and judges what the disk has then.
 
-Stations on one disk post, toss, scan, purge, convert and export, on base files and base folders, or by the scripts,
+Stations on one disk post, toss, scan, purge, convert and export, on base files and base folders, or by echonet-station,
 also with packet passwords and zip bundles.
-At the same time another program flushes files of its own. At each cut (power.py) the file system is mounted again.
+At the same time another program flushes files of its own. At each cut (lib/power.py) the file system is mounted again.
 
 - What ended with status 0 is there, whole and once.
 - What was running is there wholly or not at all.
 - No message is twice in a base or in the packets under their names.
-- The next commands work without help (judge.py).
+- The next commands work without help (lib/judge.py).
 
 Some disks are flushed whole before some files get their names: after that, btrfs keeps no order among unflushed
 names. At last all is done with an `fsync` that does nothing. There cuts have to do harm.
@@ -29,11 +29,10 @@ from os.path import join
 from typing import NamedTuple
 
 import jam
-import making
-import power
+from lib import making, power
 import stored
-from contents import PROGRAM, TOP
-from judge import LINKED, LINKS, Judge, Message, content, files_of, number_of, packet_of, texts_of
+from lib.contents import PROGRAM, TOP
+from lib.judge import LINKED, LINKS, Judge, Message, content, files_of, number_of, packet_of, texts_of
 
 NO_FLUSH = b"int fsync(int f) { (void)f; return 0; }\nint fdatasync(int f) { (void)f; return 0; }\n"
 
@@ -108,7 +107,7 @@ def before_last(steps, what):
 
 
 class Plain:
-    """A station whose commands run without the scripts."""
+    """A station whose commands run without echonet-station."""
     chances = {"post": 8, "toss": 5, "scan": 4, "purge": 1, "convert": 2}
     comes = {"post": "post", "toss": "toss"}  # how the messages of a step are made
     passing = [("", ".new"), ("out", ".new"), ("msg", ".new")]  # files that do not stay, by folders and ends of names
@@ -218,12 +217,12 @@ def look_at_stored(judge, what, folder, wanted, may):
 
 
 class Scripts(Plain):
-    """A station that the scripts of station run, with a mailer and an editor that flush their files."""
+    """A station that echonet-station runs, with a mailer and an editor that flush their files."""
     chances = {"arrive": 4, "toss": 3, "scan": 3, "mail": 2, "write": 3, "read": 3}
     comes = {"arrive": "toss", "write": "write"}
     passing = [("inbound", ".pkt"), ("tossing", ""), ("scanned", ""), ("bad", ""), ("outbound", (".bsy", ".hold")),
                ("read", ("posting", "~.new"))]
-    words = {"toss": ("toss-inbound.sh", "."), "scan": ("scan-outbound.sh", "."), "read": ("reader.sh", ".", "TEST", "read")}
+    words = {"toss": (".", "toss"), "scan": (".", "scan"), "read": (".", "read", "TEST", "read")}
 
     def __init__(self, name, is_folder):
         super().__init__(name, is_folder)
@@ -231,8 +230,7 @@ class Scripts(Plain):
 
     def do(self, judge, folder, step, wanted=0):
         if step.what in self.words:
-            script, *others = self.words[step.what]
-            return judge.run(folder, join(TOP, "station", script), *others)
+            return judge.run(folder, join(TOP, "station", "echonet-station"), *self.words[step.what])
         if step.what == "arrive":
             make(join(folder, "inbound", "%d.pkt" % step.messages[0].serial), packet_of(step.messages))
         elif step.what == "write":
@@ -416,7 +414,7 @@ class Peered(Scripts):
         return done + [opened] if os.path.exists(join(folder, "inbound", name)) else done
 
 
-# Stations whose commands run without the scripts, those of the scripts, and the steps of each disk.
+# Stations whose commands run alone, those of echonet-station, and the steps of each disk.
 STATIONS = {
     "commands": (120, lambda: [Plain("file", False), Plain("folder", True), Exports("out_of_file", False), Exports("out_of_folder", True)]),
     "scripts": (60, lambda: [Scripts("scripts_file", False), Scripts("scripts_folder", True)]),
@@ -425,7 +423,7 @@ SHARES = {"commands": 0.7, "scripts": 0.15, "peered": 0.15}
 
 
 def main(words):
-    """Half of the cuts are on the first file system, and three in ten under scripts. Then there are some without
+    """Half of the cuts are on the first file system, and three in ten under echonet-station. Then there are some without
     flushes."""
     why, there = power.enter(), power.kinds(words[1:])
     if why or not there:

@@ -15,7 +15,7 @@ import time
 
 import jam
 import stored
-from contents import read, write
+from lib.contents import read, write
 
 FIXED = 1024
 

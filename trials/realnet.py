@@ -3,7 +3,7 @@
 The station is made by `echonet-station new`. Its uplink packs with zip and wants a packet password, ifmail packs
 letters and echomail into one bundle, the point has an address that its link file cannot have. None of them has a
 setting that is made for echonet. In each round each system posts a message, and letters go both ways. In some rounds the
-station's scripts are killed, or run at the same time. At the end each system has each message once, with its text; each
+station's runs are killed, or start at the same time. At the end each system has each message once, with its text; each
 letter is at its receiver once; `doctor` finds nothing, nothing was put aside, and nothing is left on its way.
 
 Arguments: how many rounds, the first of four ports. It needs binkd, crashmail, zip, unzip, and ifmail with ifgate
@@ -19,8 +19,8 @@ import sys
 import tempfile
 import time
 
-import others
-from contents import TOP, read, write
+from lib import others
+from lib.contents import TOP, read, write
 
 PROGRAM = os.environ.get("ECHONET", os.path.join(TOP, "bin", "echonet"))
 STATION = os.path.join(TOP, "station", "echonet-station")
@@ -105,7 +105,7 @@ class Day:
                                 stdin=subprocess.DEVNULL, start_new_session=True)
 
     def disturb(self, rng):
-        """Kills runs of the scripts, or lets several run at once."""
+        """Kills runs, or lets several run at once."""
         runs = [self.script(rng.choice(("toss", "scan"))) for _ in range(rng.randrange(1, 4))]
         for run in runs:
             if rng.random() < 0.5:

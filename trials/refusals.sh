@@ -6,9 +6,9 @@
 # program's own.
 set -eu
 cd "$(dirname "$0")/.."
-. trials/setting.sh
+. trials/lib/setting.sh
 cd "$work"
-. "$top/trials/commands.sh"
+. "$top/trials/lib/commands.sh"
 make_loaded refuse
 
 make_story 8 4 200

@@ -22,8 +22,8 @@ import subprocess
 import sys
 import tempfile
 
-from contents import PROGRAM, write
-from topologies import tree_of_polygons
+from lib.contents import PROGRAM, write
+from lib.topologies import tree_of_polygons
 
 MOMENT = "2026-07-03T12:34:56"
 COUNTS = ("runs", "rounds", "killed", "lost", "filed", "stubs", "behind a stub", "one-sided", "lists", "differences")

@@ -1,5 +1,6 @@
-"""Compares the verdicts of `check --more` on all small nets with the definitions, which it tries one by one. Each net
-is an area of the same systems, and `check --all --more` judges thousands of them in one run. The nets are:
+"""Compares the verdicts of `check --more` on all small nets with the definitions, which it tries one by one: parts are those
+of ties, blocks those of full links, whatever else is wrong. Each net is an area of the same systems, and `check --all
+--more` judges thousands of them in one run. The nets are:
 - all link files of four systems
 - all of three systems of which two have one net and node, with an address that has no file
 - each graph of at most five systems
@@ -8,6 +9,7 @@ is an area of the same systems, and `check --all --more` judges thousands of the
 
 Arguments: a part from 0 on and the number of parts, to try only the nets of this part.
 """
+import functools
 import itertools
 import os
 import random
@@ -16,7 +18,7 @@ import sys
 import tempfile
 from typing import NamedTuple
 
-from contents import PROGRAM
+from lib.contents import PROGRAM
 
 MOST_AREAS = 16000  # a link file has at most 1,048,576 bytes
 FOUR = ("1:10/1", "1:10/2", "1:10/3", "1:10/4")
@@ -31,6 +33,7 @@ class Area(NamedTuple):
     addresses: tuple
     lists: tuple
 
+    @functools.lru_cache(maxsize=1024)
     def carriers(self):
         """The systems that have the area."""
         return [one for one, listed in enumerate(self.lists) if listed is not None]
@@ -40,8 +43,20 @@ class Area(NamedTuple):
         return one < len(self.lists) and self.lists[one] is not None and other in self.lists[one]
 
     def linked(self, one, other):
-        """Whether both list each other."""
-        return self.has(one, other) and self.has(other, one)
+        """Whether two different systems list each other: a full link."""
+        return one != other and self.has(one, other) and self.has(other, one)
+
+    def tied(self, one, other):
+        """Whether at least one of two different carriers lists the other: a tie."""
+        both = one in self.carriers() and other in self.carriers()
+        return one != other and both and (self.has(one, other) or self.has(other, one))
+
+    def part(self, start):
+        """The carriers that ties, one after another, join with this one, and itself."""
+        found = [start]
+        for here in found:
+            found += [other for other in self.carriers() if self.tied(here, other) and other not in found]
+        return found
 
     def same_net_node(self, one, other):
         """Whether two carriers differ only in the zone."""
@@ -58,6 +73,7 @@ class Area(NamedTuple):
             return self.has(one, other) and other in self.carriers() and not self.has(other, one)
         return self.same_net_node(one, other)
 
+    @functools.lru_cache(maxsize=1024)
     def reached(self, start, without=None):
         """How many links away each system is that a walk from `start` reaches without passing `without`."""
         found, left = {start: 0}, [start]
@@ -110,10 +126,8 @@ class Area(NamedTuple):
         """All faults in the order of the verdicts."""
         pairs = list(itertools.product(range(len(self.addresses)), repeat=2))
         found = ["%s %s" % (fault, self.named(pair)) for fault in PAIR_FAULTS for pair in pairs if self.is_wrong(fault, *pair)]
-        if found:
-            return found
         carriers = self.carriers()
-        starts = [one for one in carriers if one == min(self.reached(one))]
+        starts = [one for one in carriers if one == min(self.part(one))]
         found += ["V7 Apart " + self.named((carriers[0], one)) for one in starts[1:]]
         return found + ["V8 Loop " + self.named(loop) for loop in self.loops()]
 

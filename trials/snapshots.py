@@ -13,7 +13,7 @@ import sys
 import tempfile
 
 from folder_kills import Wanted, calls_of, changes, run_killed
-from folder_station import COMMANDS, converted, copy_of, expect, filled_station, finish, packets_in, run
+from lib.folder_station import COMMANDS, converted, copy_of, expect, filled_station, finish, packets_in, run
 
 
 def snapshot(station, name="snapshot"):

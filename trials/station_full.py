@@ -1,7 +1,7 @@
 """A station with `peers` whose disk is full: bundles of CrashMail arrive, letters and messages wait to be sent.
 
-The station is on a small tmpfs, which needs root. For each number of free pages the scripts toss and scan. Each ends
-with 0 or 3, and nothing is put aside. Then the disk gets room, and the scripts run again, two of each at the same time.
+The station is on a small tmpfs, which needs root. For each number of free pages it tosses and scans. Each ends
+with 0 or 3, and nothing is put aside. Then the disk gets room, and they run again, two of each at the same time.
 Then each message is in the base once, each letter in the folder once, and each own message and letter in one packet of
 which the flow file has one line. Arguments: the greatest number of free pages (60), the step (3). It needs crashmail,
 zip and unzip; without them it is left out, with a line.
@@ -14,8 +14,8 @@ import subprocess
 import sys
 import tempfile
 
-import others
-from contents import TOP, read, write
+from lib import others
+from lib.contents import TOP, read, write
 
 PROGRAM = os.environ.get("ECHONET", os.path.join(TOP, "bin", "echonet"))
 STATION = os.path.join(TOP, "station", "echonet-station")

@@ -1,7 +1,7 @@
-"""The scripts of a station with `peers`, killed at random and started at the same time.
+"""Runs of a station with `peers`, killed at random and started at the same time.
 
 Bundles of CrashMail with letters arrive one by one, and own messages and letters wait. Meanwhile `toss` and `scan` run,
-up to three at once. Each is killed with all that it started, after a random time, or ends by itself. Then the scripts
+up to three at once. Each is killed with all that it started, after a random time, or ends by itself. Then the runs
 run to their ends. What has to hold then is that of station_full.py: nothing lost, twice or put aside. Arguments: how many
 stations (10), the first number (0). It needs crashmail, zip and unzip; without them it is left out, with a line.
 """
@@ -13,9 +13,9 @@ import sys
 import tempfile
 import time
 
-import others
+from lib import others
 import station_full
-from contents import write
+from lib.contents import write
 
 LONGEST = 1.5  # seconds until a kill
 

@@ -5,7 +5,8 @@ post, and packets are lost. Bases are lost, also before a first run, and restore
 file `peers`. Then each station does rounds of repair, in any order, while files of the mailer are lost. At random times
 `repair`, `toss` and `scan` of several stations are killed with all that they started. At last there are rounds without
 losses and kills, until each station of a whole turn ends with `in order`. Then all bases have the same messages of two
-areas: all that one had before, each once. No file is left on its way, and nothing in `bad`.
+areas: all that one had before, each once. No file is left on its way, and nothing in `bad` but stray packets, which come in
+each round, and at other times: for another system, or without an end.
 
 Arguments: how many nets (10), the first number (0). SEED makes other choices.
 """
@@ -14,17 +15,19 @@ import random
 import re
 import shutil
 import signal
+import struct
 import subprocess
 import sys
 import tempfile
 import time
 
-from contents import PROGRAM, TOP, write
-from topologies import tree_of_polygons
+from lib.contents import PROGRAM, TOP, write
+from lib.topologies import tree_of_polygons
 
 STATION = os.path.join(TOP, "station", "echonet-station")
 FLOW = re.compile(r"000a([0-9a-f]{4})\.flo")
 LONGEST = 0.7  # seconds until a kill
+STRAYS = 0.3  # how often a toss finds a stray packet
 MOST_TURNS = 12
 
 
@@ -33,7 +36,7 @@ class Net:
 
     def __init__(self, number, folder):
         self.chance = random.Random("%s station repairs %d" % (os.environ.get("SEED", ""), number))
-        self.folder, self.kills, self.losses = folder, 0, 0
+        self.folder, self.kills, self.losses, self.strays = folder, 0, 0, 0
         self.stations = list(range(1, self.chance.randint(3, 5) + 1))
         if self.chance.random() < 0.6:
             self.pairs = {p for x in self.stations[1:] for y in [self.chance.randrange(1, x)] for p in ((x, y), (y, x))}
@@ -95,16 +98,33 @@ class Net:
                         shutil.move(path, self.at(int(found[1], 16), "inbound", os.path.basename(path)))
         return count
 
+    def stray(self, x):
+        """A bad packet that has nothing to do with a repair: for another system, or cut."""
+        content = struct.pack("<12H10x2H20x", 1, self.chance.choice((x, 99)), 2026, 11, 1, 12, 0, 0, 0, 2, 10, 10, 1, 1)
+        write(self.at(x, "inbound", "%08x.pkt" % self.chance.getrandbits(32)), content)
+        self.strays += 1
+
     def settle(self, loss=0.0):
-        """Toss and scan of all stations with news, until nothing moves."""
+        """Toss and scan of all stations with news, until nothing moves. Stray packets come in between."""
         self.deliver(loss)
         busy = set(self.stations)
         while busy:
             for x in sorted(busy):
+                if self.chance.random() < STRAYS:
+                    self.stray(x)
                 self.run(x, "toss")
+                self.remove_strays(x)
                 self.run(x, "scan")
             self.deliver(loss)
             busy = {x for x in self.stations if os.listdir(self.at(x, "inbound"))}
+
+    def remove_strays(self, x):
+        """Removes stray packets from bad/: those without a message."""
+        folder = self.at(x, "bad")
+        for name in os.listdir(folder) if os.path.isdir(folder) else ():
+            if not name.endswith(".why") and os.path.getsize(os.path.join(folder, name)) == 58:
+                os.unlink(os.path.join(folder, name))
+                os.unlink(os.path.join(folder, name + ".why"))
 
     def ids(self, x):
         """The messages that a base has."""
@@ -134,6 +154,7 @@ class Net:
         good = True
         for x in self.chance.sample(self.stations, len(self.stations)):
             status, lines = self.run(x, "repair", "--again")
+            self.stray(x)
             self.settle()
             status, lines = self.run(x, "repair")
             if lines[-1].startswith("open:"):
@@ -178,16 +199,17 @@ def main():
     count = int(sys.argv[1]) if len(sys.argv) > 1 else 10
     begin = int(sys.argv[2]) if len(sys.argv) > 2 else 0
     os.environ["ECHONET"] = PROGRAM
-    stations = kills = losses = turns = 0
+    stations = kills = losses = strays = turns = 0
     for number in range(begin, begin + count):
         with tempfile.TemporaryDirectory() as folder:
             net = Net(number, folder)
             turns += net.repair()[0]
             stations, kills, losses = stations + len(net.stations), kills + net.kills, losses + net.losses
-    if not (kills and losses):
-        sys.exit("station_repairs.py: nothing was killed or lost")
-    print("station_repairs.py: %d nets of %d stations, %d kills, %d files lost, %d turns: all have all, and are in order"
-          % (count, stations, kills, losses, turns))
+            strays += net.strays
+    if not (kills and losses and strays):
+        sys.exit("station_repairs.py: nothing was killed or lost, or no packet was stray")
+    print("station_repairs.py: %d nets of %d stations, %d kills, %d files lost, %d stray packets, %d turns: all have all, and are in order"
+          % (count, stations, kills, losses, strays, turns))
 
 
 if __name__ == "__main__":

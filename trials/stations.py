@@ -21,11 +21,8 @@ import tempfile
 import time
 from typing import NamedTuple
 
-import laws
-import making
-import running
-import topologies
-from contents import PROGRAM, TOP, content_of, write
+from lib import laws, making, running, topologies
+from lib.contents import PROGRAM, TOP, content_of, write
 
 REPLAY = os.environ.get("BENCH", os.path.join(TOP, "crates", "test_trials", "out", "test_trials"))
 MOMENT = "2000-01-01T00:00:00"

@@ -10,8 +10,8 @@ import subprocess
 import sys
 
 import export
-import making
-from contents import PROGRAM
+from lib import making
+from lib.contents import PROGRAM
 from jam import write_base
 
 AREA = b"AREA:TEST\r"

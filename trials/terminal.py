@@ -16,8 +16,8 @@ import sys
 import tempfile
 import time
 
-import making
-from contents import PROGRAM, TOP
+from lib import making
+from lib.contents import PROGRAM, TOP
 
 LINKS = making.link_file(making.OWN, [("TEST", [making.UPLINK, *making.DOWNLINKS])])
 MAIL = b"From: Ann\nTo: All\nSubject: Hi\nNewsgroups: TEST\n\nHello\n"

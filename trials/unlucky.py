@@ -21,8 +21,8 @@ import tempfile
 import threading
 import time
 
-from contents import PROGRAM, write
-from judge import LINKS, Judge, Message, content, files_of, packet_of, texts_of
+from lib.contents import PROGRAM, write
+from lib.judge import LINKS, Judge, Message, content, files_of, packet_of, texts_of
 
 TRIED = []
 

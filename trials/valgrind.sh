@@ -3,7 +3,7 @@
 # may have an error, or lose memory. Argument: how many hostile inputs.
 set -eu
 cd "$(dirname "$0")/.."
-. trials/setting.sh
+. trials/lib/setting.sh
 inputs=${1:-20}
 command -v valgrind > /dev/null || { echo "valgrind: it is not installed"; exit 0; }
 examples=$top/examples

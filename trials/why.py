@@ -1,5 +1,5 @@
 """Tries `why` on all small nets, and on greater ones with one defect each. Its events are done with `post`, `scan`
-and `toss` on real files. Its statement of the harm is compared with what trials/reading.py reads of the resulting
+and `toss` on real files. Its statement of the harm is compared with what trials/lib/reading.py reads of the resulting
 packets and bases. `replay` accepts the script and has the same counts. `picture --why` is compared with `picture`,
 and with the events that sent these packets.
 
@@ -17,11 +17,8 @@ import shutil
 import sys
 import tempfile
 
-import laws
-import making
-import reading
-import running
-from contents import PROGRAM, write
+from lib import laws, making, reading, running
+from lib.contents import PROGRAM, write
 
 MOMENT = "2000-01-01T00:00:00"
 BROKEN = (b"V3", b"V5", b"V7", b"V8")

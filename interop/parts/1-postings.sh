@@ -38,10 +38,10 @@ for area in $areas; do
 done
 wait_for 18 60
 
-# Twenty postings at once. post.sh finds their times and serials.
+# Twenty postings at once. `post` finds their times and serials.
 postings=()
 for number in $(seq 1 20); do
-  echo "Body $number" | "$scripts/post.sh" three MIDDLE All Cid "At once $number" > "posted/$number" &
+  echo "Body $number" | "$tool" three post MIDDLE All Cid "At once $number" > "posted/$number" &
   postings+=($!)
 done
 wait "${postings[@]}"

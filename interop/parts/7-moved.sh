@@ -2,7 +2,7 @@
 
 stop_daemon two
 mkdir -p moved/{base,inbound,packets,old}
-move=$here/../examples/move
+move=$here/../tools
 "$move/links-from" crashmail 1:10/2 two/prefs > moved/real
 same "its link file" "$(sed '/^NAME/d; s/ $//' two/links)" "$(cat moved/real)"
 # Beta's new base imports its messages under a link file. Its only link is the address of no system. So nothing is

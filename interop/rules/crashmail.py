@@ -5,9 +5,8 @@ import struct
 import subprocess
 import time
 
-import making
-import reading
-from contents import read, write
+from lib import making, reading
+from lib.contents import read, write
 from judge import OWN, Packed
 
 HERE = os.path.dirname(os.path.abspath(__file__))

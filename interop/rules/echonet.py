@@ -3,9 +3,8 @@ import glob
 import os
 import subprocess
 
-import making
-import reading
-from contents import read, write
+from lib import making, reading
+from lib.contents import read, write
 from crashmail import LONGEST
 from judge import OWN, Packed
 

@@ -4,7 +4,7 @@ import signal
 import subprocess
 import time
 
-from contents import read, write
+from lib.contents import read, write
 from trying import FOUR, ONE, OWN, STRANGER, THREE, message, net, trials_of, with_id
 
 TRIALS, trial = trials_of("files once")

@@ -1,14 +1,13 @@
 """Judges what a tosser did with its input by the five rules of docs/INTEROP.md.
 
-trials/reading.py reads the received packets, the postings, the filed messages and the sent packets, by
+trials/lib/reading.py reads the received packets, the postings, the filed messages and the sent packets, by
 docs/FORMATS.md. Each message of a trial has its own subject: two copies with one subject are one message.
 """
 import functools
 from collections import Counter
 from typing import NamedTuple
 
-import making
-import reading
+from lib import making, reading
 
 OWN = (1, 10, 2)
 RULES = ("files once", "keeps", "sends once", "tells", "new keys")

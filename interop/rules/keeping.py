@@ -1,5 +1,5 @@
 """Trials for "keeps"."""
-import making
+from lib import making
 from trying import ONE, message, new_id, trials_of, with_id
 
 TRIALS, trial = trials_of("keeps")

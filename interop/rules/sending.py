@@ -1,8 +1,8 @@
 """Trials for "sends once"."""
 import os
 
-import making
-from contents import write
+from lib import making
+from lib.contents import write
 from crashmail import wait_for_second, within_a_second
 from trying import FAR, ONE, OWN, SEEN, THREE, ZONES, message, net, new_id, trials_of, with_id
 

@@ -2,7 +2,7 @@
 import zlib
 from typing import NamedTuple
 
-import making
+from lib import making
 from judge import OWN, Given, Judge, Observed, Packed
 
 ONE, THREE, FOUR, LEAF = ((1, 10, node) for node in (1, 3, 4, 21))

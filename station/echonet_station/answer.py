@@ -6,7 +6,8 @@ import stat
 import sys
 from os.path import join
 
-from .addresses import Address
+from fidonet.addresses import Address
+
 from .faults import Status
 from .lists import (
     ListName,
@@ -38,7 +39,7 @@ def area_in(station: Station, path: str, link: Address) -> str:
     for tag, links in station.areas.items():
         if shown_path(word_of(tag)) == shown and link in links:
             return tag
-    raise Refused("not linked %s" % link)
+    raise Refused("not linked %s" % station.peers.net_address(link))
 
 
 def answer_question(station: Station, path: str, name: ListName) -> None:
@@ -49,7 +50,7 @@ def answer_question(station: Station, path: str, name: ListName) -> None:
     send_packet(station, link, "as-%s.pkt" % name.number)
     send_list(station, link, name_to(station, link, name.number, messages), own_list(station, tag))
     station.disk.unlink(path)
-    station.note("answered %s %s: %d messages" % (link, tag, messages))
+    station.note("answered %s %s: %d messages" % (station.peers.net_address(link), tag, messages))
 
 
 def use_answer(station: Station, path: str, name: ListName) -> None:
@@ -57,7 +58,7 @@ def use_answer(station: Station, path: str, name: ListName) -> None:
     link = link_of(station, name)
     found = [pair for pair in Round(station).pairs if pair.number == name.number and pair.link == link]
     if not found or found[0].answer is not None:
-        station.log("%s from %s: no open question" % (name, link))
+        station.log("%s from %s: no open question" % (name, station.peers.net_address(link)))
     elif area_in(station, path, link) != found[0].tag:
         raise Refused("another area")
     else:
@@ -70,7 +71,7 @@ def use_list(station: Station, path: str, pair: Pair, messages: int) -> None:
     sent = make_packet(station, pair.link, pair.tag, path)
     send_packet(station, pair.link, pair.packet)
     pair.note_answer(messages, sent, lacking(station, path, pair, sent))
-    station.note("list of %s %s: sent %d messages" % (pair.link, pair.tag, sent))
+    station.note("list of %s: sent %d messages" % (pair.name, sent))
 
 
 def lacking(station: Station, path: str, pair: Pair, sent: int) -> int:
@@ -102,9 +103,14 @@ def answer_one(station: Station, path: str, name: ListName) -> None:
         station.has_put_aside = True
 
 
-def answer(station: Station, is_locked: bool) -> Status:
-    """The word `answer`."""
-    station.lock("scan.lock", is_locked)
+def answer(station: Station, _: list[str]) -> Status:
+    """The command `answer`."""
+    station.lock("scan.lock")
+    return answer_lists(station)
+
+
+def answer_lists(station: Station) -> Status:
+    """Answers the lists that came. The caller has the lock."""
     station.load()
     for file in names_in(station.inbound):
         name = list_name(file)

@@ -60,5 +60,5 @@ def put_aside(station: Station, path: str, came: str, why: str, sender: str = "-
     disk.unlink(path)  # after a power cut it may be a second name of that file: then nothing was renamed
     disk.sync(folder)
     station.has_put_aside = True
-    station.say("put aside %s: %s" % (shown(os.fsencode(name)), reason))
+    station.warn("put aside %s: %s" % (shown(os.fsencode(name)), reason))
     station.log("aside %s from %s %s" % (shown(os.fsencode(name)), sender, reason))

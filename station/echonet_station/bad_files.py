@@ -6,9 +6,11 @@ from dataclasses import dataclass
 from os.path import lexists
 from typing import Optional
 
-from .addresses import Address
+from fidonet.addresses import Address
+
 from .aside import BY_GATE
-from .packets import HEADER_SIZE, header_of
+from fidonet.packets import HEADER_SIZE, header_of
+
 from .station import Station, names_in
 
 NO_AREA = re.compile(r"^message [0-9]+ at [0-9]+ noarea area (\S+)", re.M)
@@ -77,8 +79,9 @@ def new_areas(station: Station) -> list[NewArea]:
     for name in bad_files(station):
         tags = tags_in(station, name)
         sender = sender_of(station, name) if tags else None
-        for tag in tags if sender else []:
-            counts[tag, sender] = counts.get((tag, sender), 0) + 1
+        if sender is not None:
+            for tag in tags:
+                counts[tag, sender] = counts.get((tag, sender), 0) + 1
     known = station.links() | set(station.peers.peers)
     return [
         NewArea(tag, sender, count, sender not in known)

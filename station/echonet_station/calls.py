@@ -1,15 +1,16 @@
-"""Calls of `echonet` and of the scripts."""
+"""Calls of `echonet`."""
 from __future__ import annotations
 
 import os
 import subprocess
-from dataclasses import dataclass
+from typing import NamedTuple, Optional
 
-from .start import script_path
+from .signals import Waiting
+
+KILLED = 128  # as a shell counts signals
 
 
-@dataclass(frozen=True)
-class Called:
+class Called(NamedTuple):
     """How a call ended, and what it printed."""
 
     status: int
@@ -21,29 +22,31 @@ class Called:
         return (self.output + self.faults).strip().split("\n")[0]
 
 
+# Descriptors of locks that a called program keeps: if this process is killed, the next run waits for that program.
+kept_locks: list[int] = []
+
+
 def program() -> str:
     """The program `echonet` of the PATH, or the one that ECHONET names."""
     return os.environ.get("ECHONET", "echonet")
 
 
-def call(*words: str) -> Called:
-    """Runs a program."""
-    ran = subprocess.run(words, stdin=subprocess.DEVNULL, stdout=subprocess.PIPE, stderr=subprocess.PIPE, check=False)
-    return Called(ran.returncode, os.fsdecode(ran.stdout), os.fsdecode(ran.stderr))
+def status_of(returncode: int) -> int:
+    """The status as a shell says it."""
+    return returncode if returncode >= 0 else KILLED - returncode
 
 
-def run_script(name: str, folder: str, is_quiet: bool) -> int:
-    """Runs a script of the station. Its faults are printed here, and its lines unless it is quiet."""
-    out = subprocess.DEVNULL if is_quiet else None
-    ran = subprocess.run([script_path(name), folder], stdin=subprocess.DEVNULL, stdout=out, check=False)
-    return ran.returncode if ran.returncode >= 0 else 3
-
-
-def toss_now(folder: str, is_quiet: bool = False) -> int:
-    """Runs the script that tosses."""
-    return run_script("toss-inbound.sh", folder, is_quiet)
-
-
-def scan_now(folder: str, is_quiet: bool = False) -> int:
-    """Runs the script that scans."""
-    return run_script("scan-outbound.sh", folder, is_quiet)
+def call(*words: str, given: Optional[bytes] = None, passes_faults: bool = False) -> Called:
+    """Runs a program, with these bytes as its standard input. Its standard error may be that of this process."""
+    with Waiting():
+        ran = subprocess.run(
+            words,
+            input=given,
+            stdin=None if given is not None else subprocess.DEVNULL,
+            stdout=subprocess.PIPE,
+            stderr=None if passes_faults else subprocess.PIPE,
+            pass_fds=tuple(kept_locks),
+            check=False,
+            start_new_session=False,
+        )
+    return Called(status_of(ran.returncode), os.fsdecode(ran.stdout), os.fsdecode(ran.stderr or b""))

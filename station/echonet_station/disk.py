@@ -17,7 +17,9 @@ class Disk:
         self.flush(path)
 
     def stage(self, path: str, content: Content) -> None:
-        """Makes a whole file that `flush` puts on the disk."""
+        """Makes a whole file that `flush` puts on the disk. A file that has another name, too, stays as it is there: a kill
+        or a power cut may leave a file with its old name and its new one."""
+        leave_other_name(path)
         try:
             with open(path, "wb") as file:
                 for piece in (content,) if isinstance(content, bytes) else content:
@@ -55,6 +57,14 @@ class Disk:
         """Gives a file a second name. A file of that name stays, and is an error."""
         os.link(old, new)
 
+    def set_mode(self, path: str, mode: int) -> None:
+        """Says who may use a file."""
+        os.chmod(path, mode)
+
+    def set_time(self, path: str, moment: int) -> None:
+        """Says when a file changed last, in nanoseconds."""
+        os.utime(path, ns=(moment, moment))
+
     def unlink(self, path: str) -> None:
         """Removes a file, if it is there."""
         try:
@@ -65,6 +75,13 @@ class Disk:
     def sync(self, folder: str) -> None:
         """Puts the names in a folder on the disk."""
         flush_path(folder, os.O_RDONLY | os.O_DIRECTORY)
+
+    def remove_folder(self, path: str) -> None:
+        """Removes a folder and the files in it, if it is there."""
+        if os.path.isdir(path):
+            for name in os.listdir(path):
+                self.unlink(os.path.join(path, name))
+            os.rmdir(path)
 
     def make_folder(self, path: str) -> None:
         """Makes a folder, if it is not there, and those above it."""
@@ -80,6 +97,15 @@ def flush_path(path: str, flags: int) -> None:
         os.fsync(where)
     finally:
         os.close(where)
+
+
+def leave_other_name(path: str) -> None:
+    """Removes a name of a file that has several."""
+    try:
+        if os.lstat(path).st_nlink > 1:
+            os.unlink(path)
+    except FileNotFoundError:
+        pass
 
 
 def remove_part(path: str) -> None:

@@ -6,17 +6,16 @@ import shutil
 from os.path import exists
 from typing import Iterator
 
+from fidonet.addresses import Address
+
 from .calls import call, program
 from .faults import Status, Stopped
 from .mailer import Finding, configuration, look_at_mailer
 from .printing import shown_path
+from .read_only_links import look_at_read_only
 from .station import Station
+from .unpacking import PROGRAMS
 
-TOOLS = (
-    ("7z", "bundles of arj, lzh and 7z go to bad/"),
-    ("flock", "the scripts need it"),
-    ("awk", "the scripts need it"),
-)
 OTHERS_MAY = 0o077
 
 
@@ -48,7 +47,21 @@ def look_at_passwords(station: Station) -> Iterator[Finding]:
         yield Finding("link %s has a packet password" % link, bool(peers.peer(link).password), advice)
     for address in sorted(set(peers.peers) - links):
         is_known = address in (station.own, peers.route) or address in peers.real_of or not station.areas
+        is_known = is_known or may_ask(station, address)
         yield Finding("peer %s is a link" % address, is_known, "no AREA line names it")
+
+
+def may_ask(station: Station, address: Address) -> bool:
+    """Whether a system without areas may have some later: it asks for them, only has letters, or is paused."""
+    peer = station.peers.peer(address)
+    return bool(peer.areafix) or peer.passes or (exists(station.at("paused")) and is_paused(station, address))
+
+
+def is_paused(station: Station, address: Address) -> bool:
+    """Whether a link is paused."""
+    from .pausing import Pauses
+
+    return bool(Pauses(station).tags(address))
 
 
 def look_at_folders(station: Station) -> Iterator[Finding]:
@@ -63,8 +76,8 @@ def has_hard_links(station: Station) -> bool:
     """Tries a hard link in the station's folder."""
     probe = station.at("doctor.probe")
     try:
-        with open(probe, "wb"):
-            os.link(probe, probe + ".2")
+        station.disk.stage(probe, b"")
+        station.disk.link(probe, probe + ".2")
         return True
     except OSError:
         return False
@@ -76,24 +89,25 @@ def has_hard_links(station: Station) -> bool:
 def look_at_tools() -> Iterator[Finding]:
     """Whether the programs are there that a station calls."""
     yield Finding("echonet", shutil.which(program()) is not None, "it is not on the PATH; or set ECHONET")
-    for tool, why in TOOLS:
-        yield Finding(tool, shutil.which(tool) is not None, why)
+    if not any(map(shutil.which, PROGRAMS)):
+        yield Finding("7z", True, "bundles of arj, lzh and 7z go to bad/", is_note=True)
 
 
 def doctor(station: Station, words: list[str]) -> int:
-    """The word `doctor`."""
+    """The command `doctor`."""
     has_bad = False
 
     def show(findings: Iterator[Finding]) -> None:
         nonlocal has_bad
         for finding in findings:
             has_bad = has_bad or not finding.is_good
-            mark = "good" if finding.is_good else "BAD "
-            print("%s %s%s" % (mark, finding.what, "" if finding.is_good else ": " + finding.advice), flush=True)
+            mark = "note" if finding.is_note else "good" if finding.is_good else "BAD "
+            print("%s %s%s" % (mark, finding.what, "" if mark == "good" else ": " + finding.advice), flush=True)
 
     show(look_at_links(station))
-    if not hasattr(station, "peers"):
+    if not hasattr(station, "own"):
         return Status.HAND
+    show(look_at_read_only(station))
     show(look_at_folders(station))
     show(look_at_tools())
     path = configuration(station, words)

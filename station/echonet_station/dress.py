@@ -7,11 +7,13 @@ import struct
 from os.path import join
 from typing import Iterator, Optional
 
-from .addresses import Address
+from fidonet.addresses import Address
+
 from .faults import Status
-from .messages import Damage, read_messages, with_names
-from .packets import END, HEADER_SIZE, PASSWORD, Packet
-from .seen_by import text_without
+from fidonet.messages import Damage, read_messages, with_names
+from fidonet.packets import END, HEADER_SIZE, PASSWORD, Packet
+from fidonet.seen_by import text_without
+
 from .station import Station, names_in
 
 # The scan, and `letters`, name a packet by its link.
@@ -94,9 +96,14 @@ def link_of(name: str) -> Optional[Address]:
     return Address(int(found[1]), int(found[2]), int(found[3])) if found else None
 
 
-def dress(station: Station, is_locked: bool) -> Status:
-    """The word `dress`."""
-    station.lock("scan.lock", is_locked)
+def dress(station: Station, _: list[str]) -> Status:
+    """The command `dress`."""
+    station.lock("scan.lock")
+    return dress_all(station)
+
+
+def dress_all(station: Station) -> Status:
+    """Dresses the packets of scanned/. The caller has the lock."""
     station.load()
     for name in names_in(station.at("scanned")):
         link = link_of(name)

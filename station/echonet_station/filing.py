@@ -2,21 +2,19 @@
 from __future__ import annotations
 
 import os
-import re
-import struct
 from os.path import exists, join
 from typing import Iterator, Optional
 
-from .letter_addresses import Route
-from .messages import Message
-from .packets import Packet
+from fidonet.letter_addresses import Route
+from fidonet.messages import Message
+from fidonet.packets import Packet
+from fidonet.stored import FORM, IN_TRANSIT
+from fidonet.stored import NAME as STORED_NAME
+
 from .station import Station
 
 # Private, file, receipts and audit: the attributes that a sender may set.
 KEPT_ATTRIBUTES = 0x7011
-IN_TRANSIT = 0x0020
-FORM = struct.Struct("<36s36s72s20s13H")
-STORED_NAME = re.compile(r"([0-9]{1,9})\.msg", re.I)
 FIRST_NUMBER = 2  # other tossers keep a number in 1.msg
 
 
@@ -59,7 +57,7 @@ class Filing:
         """Files a letter. The file `mark` gets a second name in netmail/, so a repeated run sees that it was filed."""
         from hashlib import sha256
 
-        known = self.begin()
+        self.begin()
         content = stored(message, packet, route, self.station.is_own(route.to))
         digest = sha256(content).hexdigest().encode()
         if exists(mark) and not has_content(mark, content):
@@ -67,7 +65,9 @@ class Filing:
         if exists(mark) and os.stat(mark).st_nlink > 1:
             self.remember(digest)
             return
-        if digest in known:
+        if exists(mark):
+            self.known = None  # a letter that was passed on since has left netmail/, and was noted before
+        if digest in self.begin():
             self.station.log("known letter from %s" % route.by)
             return
         if not exists(mark):

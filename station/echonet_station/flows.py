@@ -7,7 +7,8 @@ from dataclasses import dataclass, field
 from os.path import basename, dirname, isdir, join, lexists
 from typing import Iterator, Optional
 
-from .addresses import Address, address_of
+from fidonet.addresses import Address, address_of
+
 from .faults import Status, Stopped
 from .station import Station, names_in
 
@@ -79,7 +80,7 @@ def size_of(flow: Flow) -> int:
 
 
 def flow(station: Station, words: list[str]) -> int:
-    """The word `flow`."""
+    """The command `flow`."""
     station.load()
     name = "%s:%s/%s" % tuple(words)
     link = address_of(name)

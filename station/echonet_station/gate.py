@@ -6,18 +6,22 @@ import re
 import stat
 import sys
 import zlib
-from os.path import getsize, isdir, join, lexists
+from os.path import getsize, join, lexists
 from typing import Optional
 
-from .aside import put_aside, with_word
+from .aside import put_aside
 from .bundles import BUNDLE_NAME, kind_of, unpack
 from .faults import Status
 from .filing import Filing
 from .inbound import give_back, is_young, take_in
-from .judging import Judge, Verdict, Way, foreign_packet, output_of
-from .packets import LEAST_SIZE, PACKET_TYPE, TYPE_2, Packet
+from .judging import Judge, Verdict, Way, output_of, packet_of
+from .letter_ways import aside_name
+from fidonet.messages import Message
+from fidonet.packets import LEAST_SIZE, PACKET_TYPE, TYPE_2, Packet
+
 from .passing import Output, Passing, Received
 from .printing import shown_path
+from .requests import keep_request
 from .station import Station, names_in
 
 RECEIVED = re.compile(r"([0-9]{8})\.in")
@@ -49,7 +53,7 @@ class Gate:
             if found:
                 self.treat(found[1])
         self.passing.finish()
-        remove_members(self.members)
+        self.disk.remove_folder(self.members)
         self.disk.sync(self.station.at("gate"))
         clean_up(self.station)
         return self.station.ending(has_failed or self.passing.has_failed)
@@ -124,8 +128,12 @@ class Gate:
         """Files the letters of a packet, and makes the packet for toss."""
         for message, route in verdict.letters:
             self.filing.file(self.station.at("gate", "%s.%d.letter" % (key, message.place)), packet, message, route)
+        for message, route in verdict.requests:
+            keep_request(self.station, packet, message, route, verdict.sender)
         if verdict.foreign:
             self.put_foreign(packet, verdict, came)
+        if verdict.read_only:
+            self.put_read_only(packet, verdict, came)
         for cut in verdict.cuts:
             self.station.log("cut %s from %s %s" % (shown_path(came), verdict.sender, cut))
         if verdict.has_output():
@@ -133,10 +141,21 @@ class Gate:
 
     def put_foreign(self, packet: Packet, verdict: Verdict, came: str) -> None:
         """Puts the letters that are not for this system aside, as a packet of their own."""
+        first = "%d letters, the first for %s" % (len(verdict.foreign), verdict.foreign[0][1].to)
+        messages = [message for message, _ in verdict.foreign]
+        self.put_messages(packet, messages, verdict, aside_name(came), "; ".join([first, *verdict.advice[:MOST_CAUSES]]))
+
+    def put_read_only(self, packet: Packet, verdict: Verdict, came: str) -> None:
+        """Puts the messages aside that a read-only link sent."""
+        counts = sorted(verdict.read_only_tags.items())
+        parts = ["%d messages of readonly %s from %s" % (count, tag, verdict.sender) for tag, count in counts]
+        self.put_messages(packet, verdict.read_only, verdict, aside_name(came, "readonly"), "; ".join(parts[:MOST_CAUSES]))
+
+    def put_messages(self, packet: Packet, messages: list[Message], verdict: Verdict, name: str, why: str) -> None:
+        """Puts some messages aside, as a packet of their own."""
         path = self.station.at("gate", "letters.new")
-        self.disk.write(path, foreign_packet(packet, verdict))
-        why = "%d letters, the first for %s" % (len(verdict.foreign), verdict.foreign[0][1].to)
-        put_aside(self.station, path, with_word(came, "letters"), why, verdict.sender)
+        self.disk.write(path, packet_of(packet, messages))
+        put_aside(self.station, path, name, why, verdict.sender)
 
     def make_output(self, received: Received, packet: Packet, verdict: Verdict, came: str) -> None:
         """Makes the packet for toss. One that needs no change is moved. A member of a bundle is a copy already."""
@@ -156,7 +175,7 @@ class Gate:
 
     def open_bundle(self, received: Received) -> None:
         """Treats each packet of a bundle. The bundle goes to bad/ if a member did not go on."""
-        remove_members(self.members)
+        self.disk.remove_folder(self.members)
         os.mkdir(self.members)
         result = unpack(received.path, self.members)
         if result.failed:
@@ -222,16 +241,13 @@ def clean_up(station: Station) -> None:
             station.disk.unlink(station.at("tossing", name))
 
 
-def remove_members(folder: str) -> None:
-    """Removes the members of the last bundle."""
-    if isdir(folder):
-        for name in os.listdir(folder):
-            os.unlink(join(folder, name))
-        os.rmdir(folder)
-
-
-def gate(station: Station, is_locked: bool) -> Status:
-    """The word `gate`."""
-    station.lock("toss.lock", is_locked)
+def pass_gate(station: Station) -> Status:
+    """Runs the gate. The caller has the lock."""
     station.load()
     return Gate(station).run()
+
+
+def gate(station: Station, _: list[str]) -> Status:
+    """The command `gate`."""
+    station.lock("toss.lock")
+    return pass_gate(station)

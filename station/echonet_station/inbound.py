@@ -9,7 +9,8 @@ from typing import Optional
 
 from .bundles import BUNDLE_NAME, END_SIZE, NO_END, Kind, fault_of_zip, kind_of
 from .disk import Disk
-from .packets import HEADER_SIZE, header_of
+from fidonet.packets import HEADER_SIZE, header_of
+
 from .printing import shown_path
 from .station import Station, names_in
 

@@ -6,12 +6,18 @@ from dataclasses import dataclass, field
 from enum import Enum
 from typing import Iterator, Optional
 
-from .addresses import Address
-from .letter_addresses import Route, route_of
-from .messages import Damage, Message, read_messages, with_names
-from .packets import END, HEADER_SIZE, Header, Packet, header_of
-from .seen_by import Places, text_without
+from fidonet.addresses import Address
+from fidonet.letter_addresses import Route, route_of
+from fidonet.messages import MOST_TEXT, Damage, Message, read_messages, with_names
+from fidonet.packets import END, HEADER_SIZE, Header, Packet, header_of
+from fidonet.rescanned import WORD as RESCANNED
+from fidonet.rescanned import is_rescanned, seen_by_all
+from fidonet.seen_by import Places, text_without
+
+from .letter_ways import LetterWays, is_robot
 from .station import Station
+
+AREA = b"AREA:"
 
 
 class Way(Enum):
@@ -41,16 +47,22 @@ class Verdict:
     why: str = ""
     pieces: list[Piece] = field(default_factory=list)
     letters: list[tuple[Message, Route]] = field(default_factory=list)
+    requests: list[tuple[Message, Route]] = field(default_factory=list)  # for AreaFix
     foreign: list[tuple[Message, Route]] = field(default_factory=list)
+    advice: list[str] = field(default_factory=list)  # on the foreign ones
+    read_only: list[Message] = field(default_factory=list)
+    read_only_tags: dict[str, int] = field(default_factory=dict)
     cuts: list[str] = field(default_factory=list)
     damages: list[str] = field(default_factory=list)
     echomail: int = 0
     has_changed: bool = False
     points: Places = field(default_factory=set)  # those to take out of SEEN-BY lines
+    links: dict[str, list[Address]] = field(default_factory=dict)  # of areas in which rescanned messages go no further
 
     def is_whole(self) -> bool:
         """Whether all messages go on as they are."""
-        return not (self.letters or self.foreign or self.cuts or self.damages or self.has_changed)
+        sorted_out = self.letters or self.requests or self.foreign or self.read_only
+        return not (sorted_out or self.cuts or self.damages or self.has_changed)
 
     def has_output(self) -> bool:
         """Whether there is a packet for toss. One without any messages is one."""
@@ -63,6 +75,8 @@ class Judge:
     def __init__(self, station: Station) -> None:
         self.station = station
         self.peers = station.peers
+        self.ways = LetterWays(station)
+        self.links = {} if station.settings.get("RESCANNED") == "pass" else station.areas
 
     def judge(self, packet: Packet, is_member: bool) -> Verdict:
         """Judges a packet. One that cannot be read goes on, and `toss` names its fault."""
@@ -79,7 +93,8 @@ class Judge:
         if why:
             return Verdict(Way.ASIDE, begin, sender, why)
         points = set() if header.sender in self.peers.fake_of else self.station.point_places
-        verdict = Verdict(Way.ON, self.passed_header(begin, header), sender, points=points)
+        links = self.links if packet.memory.find(RESCANNED) >= 0 else {}
+        verdict = Verdict(Way.ON, self.passed_header(begin, header), sender, points=points, links=links)
         self.sort(packet, header, verdict)
         return verdict
 
@@ -122,24 +137,43 @@ class Judge:
 
     def sort(self, packet: Packet, header: Header, verdict: Verdict) -> None:
         """Sorts the messages: echomail for toss, letters, and those that need care."""
-        is_from_point = header.sender in self.peers.fake_of
+        link = self.peers.link_of(header.sender)
+        may_be_read_only = {tag for tag in self.peers.read_only if self.peers.is_read_only(tag, link)}
         for found in read_messages(packet):
             if isinstance(found, Damage):
                 verdict.damages.append(str(found))
                 continue
             verdict.cuts += found.too_long
-            if found.is_echomail:
+            if not found.is_echomail:
+                self.sort_letter(packet, found, route_of(with_names(packet, found), packet, header), verdict, link)
+            elif may_be_read_only and tag_of(found.text_of(packet)) in may_be_read_only:
+                tag = tag_of(found.text_of(packet))
+                verdict.read_only.append(found)
+                verdict.read_only_tags[tag] = verdict.read_only_tags.get(tag, 0) + 1
+            else:
                 self.keep(packet, found, verdict)
-                continue
-            route = route_of(with_names(packet, found), packet, header)
-            is_ours = is_from_point or self.takes_letter(route)
-            (verdict.letters if is_ours else verdict.foreign).append((found, route))
+
+    def sort_letter(self, packet: Packet, letter: Message, route: Route, verdict: Verdict, link: Address) -> None:
+        """Sorts a letter: for AreaFix, for netmail/, or for bad/."""
+        if self.station.is_own(route.to) and self.ways.has_areafix and is_robot(letter.name_of(packet, 0)):
+            verdict.requests.append((letter, route))
+            return
+        refusal = None
+        if link not in self.peers.real_of and not self.ways.is_here(route.to):
+            refusal = self.ways.refusal(route, letter.numbers(packet)[4], letter.text_of(packet))
+        if refusal is None:
+            verdict.letters.append((letter, route))
+            return
+        verdict.foreign.append((letter, route))
+        if refusal and refusal not in verdict.advice:
+            verdict.advice.append(refusal)
 
     def keep(self, packet: Packet, message: Message, verdict: Verdict) -> None:
         """Notes a message that goes on to toss."""
         verdict.echomail += 1
-        has_points = bool(verdict.points) and text_without(message.text_of(packet), verdict.points) is not None
-        if message.too_long or has_points:
+        needs_text = bool(verdict.points or verdict.links)
+        has_other_text = needs_text and changed_text(message.text_of(packet), verdict) is not None
+        if message.too_long or has_other_text:
             verdict.has_changed = True
             verdict.pieces.append(Piece(message.place, message.end, with_names(packet, message)))
             return
@@ -149,9 +183,21 @@ class Judge:
         else:
             verdict.pieces.append(Piece(message.place, message.end))
 
-    def takes_letter(self, route: Route) -> bool:
-        """Whether a letter is for this system or one of its points."""
-        return self.station.is_own(route.to) or route.to in self.peers.fake_of
+
+def tag_of(text: bytes) -> str:
+    """The tag in the first line of an echomail text."""
+    return text.lstrip(b"\n")[len(AREA) :].split(b"\r", 1)[0].strip(b" \t\n").decode("latin-1").upper()
+
+
+def changed_text(text: bytes, verdict: Verdict) -> Optional[bytes]:
+    """The text that goes on, if it is another one: without points, and with all links in the SEEN-BY of what a rescan
+    sent. One that would be too long stays."""
+    new = text_without(text, verdict.points) if verdict.points else None
+    if verdict.links and is_rescanned(text):
+        links = verdict.links.get(tag_of(text), ())
+        longer = seen_by_all(text if new is None else new, {link.place() for link in links})
+        return longer if len(longer) <= MOST_TEXT else new
+    return new
 
 
 def output_of(packet: Packet, verdict: Verdict) -> Iterator[bytes]:
@@ -165,15 +211,15 @@ def output_of(packet: Packet, verdict: Verdict) -> Iterator[bytes]:
         if piece.changed is None:
             yield from packet.pieces(piece.start, piece.end)
         else:
-            text = text_without(piece.changed.text_of(packet), verdict.points)
+            text = changed_text(piece.changed.text_of(packet), verdict)
             yield piece.changed.mended(packet, text)
     yield END
 
 
-def foreign_packet(packet: Packet, verdict: Verdict) -> Iterator[bytes]:
-    """The bytes of a packet of the letters that are not for this system, with the header that came."""
+def packet_of(packet: Packet, messages: list[Message]) -> Iterator[bytes]:
+    """The bytes of a packet of some messages, with the header that came."""
     packet.reread()
     yield packet.header()
-    for message, _ in verdict.foreign:
+    for message in messages:
         yield from packet.pieces(message.place, message.end)
     yield END

@@ -6,52 +6,31 @@ import struct
 import time
 import zlib
 from dataclasses import dataclass, field
+from hashlib import sha256
 from os.path import exists, isfile
 from typing import Optional
 
-from .addresses import Address
+from fidonet.addresses import Address
+from fidonet.letter_addresses import FROM_POINT, HAS_INTL, TO_POINT, Route, stated_route, with_points
+from fidonet.packets import END, new_header, packed
+from fidonet.stored import ATTRIBUTES_AT, CRASH, FIELDS, FILES, IN_TRANSIT, LOCAL, NAME, SENT, Stored
+
 from .faults import Status
-from .filing import FORM, IN_TRANSIT, KEPT_ATTRIBUTES, STORED_NAME
-from .letter_addresses import FROM_POINT, HAS_INTL, TO_POINT, Route, stated_route, with_points
-from .packets import END
+from .filing import KEPT_ATTRIBUTES, Filing
+from .letter_ways import LetterWays
+from .new_letters import KILL_SENT
 from .station import Station, names_in
 
-SENT, LOCAL, CRASH = 0x0008, 0x0100, 0x0002
-FILES = 0x0810  # file attaches and requests
-ATTRIBUTES_AT = 186
-HEAD_SIZE = FORM.size
 MOST_BYTES = 1 << 20
 WRITING = 2  # seconds in which an editor may be writing a file
 
 
-@dataclass
-class Letter:
-    """A stored message."""
+class Letter(Stored):
+    """A letter of netmail/."""
 
-    name: str
-    content: bytes
-
-    def numbers(self) -> tuple[int, ...]:
-        """Node and node, cost, net and net, zones and points, each of addressee and sender."""
-        return struct.unpack_from("<9H", self.content, 166)
-
-    def attributes(self) -> int:
-        """The attributes, as far as the file is a message."""
-        if len(self.content) < HEAD_SIZE:
-            return 0
-        return int(struct.unpack_from("<H", self.content, ATTRIBUTES_AT)[0])
-
-    def text(self) -> bytes:
-        """The text, without the 00."""
-        return self.content[HEAD_SIZE:].split(b"\0", 1)[0]
-
-    def has_end(self) -> bool:
-        """Whether the text is whole."""
-        return b"\0" in self.content[HEAD_SIZE:]
-
-    def field(self, start: int, size: int) -> bytes:
-        """A name, without its 00."""
-        return self.content[start : start + size].split(b"\0")[0][: size - 1]
+    def part(self, name: str) -> bytes:
+        """A name, the subject or the date, with room for its 00."""
+        return self.field(name)[: FIELDS[name][1] - 1]
 
     def digest(self) -> str:
         """Tells a letter from one that was changed since."""
@@ -60,10 +39,11 @@ class Letter:
 
 @dataclass
 class Plan:
-    """What a run began: the packets, and the letters in them with their digests."""
+    """What a run began: the packets, the letters in them with their digests, and which of them leave netmail/ then."""
 
     packets: list[str] = field(default_factory=list)
     letters: list[tuple[str, str]] = field(default_factory=list)
+    leaving: list[tuple[str, str]] = field(default_factory=list)  # those that leave netmail/ once they are sent
 
 
 class Letters:
@@ -74,6 +54,8 @@ class Letters:
         self.disk = station.disk
         self.folder = station.at("letters")
         self.plan = station.at("letters", "plan")
+        self.ways = LetterWays(station)
+        self.leaving: set[str] = set()
         self.groups: dict[Address, list[tuple[Letter, bytes]]] = {}
 
     def run(self) -> Status:
@@ -84,7 +66,7 @@ class Letters:
             self.finish(self.read_plan())
         for name in names_in(self.folder):
             self.disk.unlink(self.station.at("letters", name))
-        for name in sorted(filter(STORED_NAME.fullmatch, names_in(self.station.at("netmail"))), key=number_in):
+        for name in sorted(filter(NAME.fullmatch, names_in(self.station.at("netmail"))), key=number_in):
             self.sort(name)
         if self.groups:
             self.finish(self.write_plan(self.write_packets()))
@@ -92,7 +74,7 @@ class Letters:
 
     def keep(self, name: str, why: str) -> None:
         """Says that a letter stays."""
-        self.station.say("keeps %s%s" % (name, why))
+        self.station.warn("keeps %s%s" % (name, why))
         self.station.has_put_aside = True
 
     def sort(self, name: str) -> None:
@@ -114,10 +96,13 @@ class Letters:
         route = self.route(letter)
         if self.station.is_own(route.to):
             return
-        way = self.way(route.to)
+        way = self.ways.next_system(route.to)
         if way is None:
             self.keep(name, " for %s: peers has no ROUTE" % route.to)
             return
+        is_passed = not attributes & LOCAL and self.ways.is_passed(route)
+        if is_passed or attributes & KILL_SENT:
+            self.leaving.add(name)
         self.groups.setdefault(way, []).append((letter, self.packed(letter, route)))
 
     def read(self, name: str) -> Optional[Letter]:
@@ -145,13 +130,6 @@ class Letters:
             return Route(to, own.with_point(route.by.point or by_point or own.point))
         return Route(to, route.by.with_point(route.by.point or by_point))
 
-    def way(self, to: Address) -> Optional[Address]:
-        """The system that gets a letter next."""
-        fake = self.station.peers.fake_of.get(to)
-        if fake is not None:
-            return fake
-        return to if to in self.station.peers.peers else self.station.peers.route
-
     def packed(self, letter: Letter, route: Route) -> bytes:
         """The letter as a message of a packet, with the lines that say its way."""
         to, by, text = route.to, route.by, letter.text()
@@ -167,29 +145,22 @@ class Letters:
         stamp = time.strftime("%Y%m%d.%H%M%S", time.gmtime())
         via = ("\1Via %s @%s.UTC echonet\r" % (self.station.real, stamp)).encode()
         attributes = letter.attributes() & (KEPT_ATTRIBUTES | CRASH)
-        numbers = struct.pack("<7H", 2, by.node, to.node, by.net, to.net, attributes, 0)
-        date = letter.field(144, 20).ljust(20, b"\0")
-        names = b"".join(letter.field(start, size) + b"\0" for start, size in ((36, 36), (0, 36), (72, 72)))
-        return numbers + date + names + lines + text + via + b"\0"
+        numbers = (by.node, to.node, by.net, to.net, attributes, 0)
+        names = map(letter.part, ("to", "from", "subject"))
+        return packed(numbers, letter.part("date"), names, lines + text + via)
 
     def write_packets(self) -> Plan:
         """Writes a packet for each system, into letters/."""
         plan, now = Plan(), time.time_ns() // 1000000
         for number, (way, letters) in enumerate(sorted(self.groups.items())):
             name = "%d.%d.%d.m%d.pkt" % (way.zone, way.net, way.node, now + number)
-            packet = self.header_to(way) + b"".join(packed for _, packed in letters) + END
+            packet = new_header(self.station.own, way, time.gmtime()) + b"".join(message for _, message in letters) + END
             self.disk.write(self.station.at("letters", name), packet)
             plan.packets.append(name)
             plan.letters += [(letter.name, letter.digest()) for letter, _ in letters]
+        plan.leaving = [(name, digest) for name, digest in plan.letters if name in self.leaving]
         self.disk.sync(self.folder)
         return plan
-
-    def header_to(self, way: Address) -> bytes:
-        """The header that a scan would write. `dress` does the rest."""
-        own, now = self.station.own, time.gmtime()
-        moment = (now.tm_year, now.tm_mon - 1, now.tm_mday, now.tm_hour, now.tm_min, now.tm_sec)
-        nodes = (own.node, way.node, *moment, 0, 2, own.net, way.net)
-        return struct.pack("<12H10x2H20x", *nodes, own.zone, way.zone)
 
     def write_plan(self, plan: Plan) -> Plan:
         """Notes what is about to be marked and sent."""
@@ -221,6 +192,8 @@ class Letters:
             self.disk.sync(self.station.at("scanned"))
             self.disk.sync(self.folder)
             self.station.say("letters in %s" % name)
+        for name, digest in plan.leaving:
+            self.remove(name, digest)
         self.disk.unlink(self.plan)
         self.disk.sync(self.folder)
 
@@ -236,13 +209,34 @@ class Letters:
             self.disk.put(path, ATTRIBUTES_AT, struct.pack("<H", letter.attributes() | SENT))
 
 
+    def remove(self, name: str, digest: str) -> None:
+        """Removes a letter that was sent, unless it was changed since. That it came is noted before: a gate that was stopped
+        would file it again."""
+        path = self.station.at("netmail", name)
+        try:
+            with open(path, "rb") as file:
+                content = bytearray(file.read(MOST_BYTES + 1))
+        except FileNotFoundError:
+            return
+        struct.pack_into("<H", content, ATTRIBUTES_AT, Letter(name, bytes(content)).attributes() & ~SENT)
+        if Letter(name, bytes(content)).digest() == digest:
+            Filing(self.station).remember(sha256(content).hexdigest().encode())
+            self.disk.unlink(path)
+            self.disk.sync(self.station.at("netmail"))
+
+
 def number_in(name: str) -> int:
     """The number of a stored message."""
     return int(name.split(".")[0])
 
 
-def letters(station: Station, is_locked: bool) -> Status:
-    """The word `letters`."""
-    station.lock("scan.lock", is_locked)
+def letters(station: Station, _: list[str]) -> Status:
+    """The command `letters`."""
+    station.lock("scan.lock")
+    return pack_letters(station)
+
+
+def pack_letters(station: Station) -> Status:
+    """Packs the letters that wait. The caller has the lock."""
     station.load()
     return Letters(station).run()

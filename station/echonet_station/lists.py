@@ -7,7 +7,8 @@ from dataclasses import dataclass
 from os.path import join, lexists
 from typing import Optional
 
-from .addresses import Address, address_of
+from fidonet.addresses import Address, address_of
+
 from .calls import Called, call, program
 from .faults import Status, Stopped
 from .printing import shown_path

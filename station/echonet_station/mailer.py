@@ -7,7 +7,8 @@ from dataclasses import dataclass, field
 from os.path import dirname, exists, join, realpath
 from typing import Iterator, Optional
 
-from .addresses import Address, address_of
+from fidonet.addresses import Address, address_of
+
 from .station import Station
 
 PLACES = ("/etc/binkd/binkd.cfg", "/etc/binkd.conf")
@@ -22,6 +23,7 @@ class Finding:
     what: str
     is_good: bool
     advice: str = ""
+    is_note: bool = False  # good to know, and no fault
 
 
 @dataclass
@@ -65,7 +67,7 @@ def configuration(station: Station, words: list[str]) -> Optional[str]:
     if words:
         return words[0]
     places = (station.at("binkd.conf"), station.at("binkd.cfg"), *PLACES)
-    return next(filter(exists, places), None)
+    return next((place for place in places if exists(place)), None)
 
 
 def look_at_mailer(station: Station, path: str) -> Iterator[Finding]:
@@ -97,7 +99,7 @@ BUNDLE_MASKS = "*.mo? *.tu? *.we? *.th? *.fr? *.sa? *.su?"
 
 def is_toss(words: list[str]) -> bool:
     """Whether a command of binkd tosses."""
-    return bool(words) and re.search(r"toss-inbound|echonet-station\s.*\btoss\b", words[0]) is not None
+    return bool(words) and re.search(r"echonet-station\s.*\b(toss|run)\b", words[0]) is not None
 
 
 def look_at_domain(station: Station, mailer: Mailer, above: str) -> Finding:

@@ -7,13 +7,16 @@ import shutil
 from dataclasses import dataclass
 from os.path import isdir, join, lexists
 
-from .addresses import Address, address_of
+from fidonet.addresses import Address, address_of
+
 from .calls import call, program
 from .disk import Disk
 from .faults import Status, Stopped
 from .mailer import BUNDLE_MASKS
+from .options import Given, given_by
 from .peers import MOST_PASSWORD
-from .start import script_path
+from .program_path import whole_path
+from .words import BY_NAME
 
 FILES = ("links", "peers", "binkd.conf")
 FOLDERS = ("base", "inbound", "strangers", "partly", "outbound")
@@ -34,6 +37,7 @@ class Order:
     host: str
     password: str
     tags: list[str]
+    sysop: str
 
     def links(self) -> str:
         """The link file."""
@@ -47,13 +51,12 @@ class Order:
     def mailer(self) -> str:
         """The configuration of binkd."""
         place, own = self.folder, self.own
-        toss, scan = script_path("toss-inbound.sh"), script_path("scan-outbound.sh")
         return "\n".join(
             (
                 "domain fidonet %s/outbound %d" % (place, own.zone),
                 "address %s@fidonet" % own,
                 'sysname "%s"' % self.name,
-                'sysop "%s"' % self.name,
+                'sysop "%s"' % self.sysop,
                 'location "-"',
                 'nodeinfo 115200,TCP,BINKP',
                 "log %s/binkd.log" % place,
@@ -65,16 +68,15 @@ class Order:
                 "kill-dup-partial-files",
                 "kill-old-bsy 12h",
                 "node %s@fidonet %s %s" % (self.uplink, self.host, self.password),
-                'exec "%s %s || true && %s %s" *.pkt *.ask *.ids %s' % (toss, place, scan, place, BUNDLE_MASKS),
+                'exec "%s %s run" *.pkt *.ask *.ids %s' % (whole_path(), place, BUNDLE_MASKS),
                 "",
             )
         )
 
     def next_steps(self) -> str:
         """What to do next."""
-        toss, scan, place = script_path("toss-inbound.sh"), script_path("scan-outbound.sh"), self.folder
-        runs = '%s %s > /dev/null || echo "toss: status $?"; %s %s > /dev/null || echo "scan: status $?"' % (toss, place, scan, place)
-        cron = "*/5 * * * * %s%s" % (with_path(), runs)
+        place = self.folder
+        cron = '*/5 * * * * %s%s %s run > /dev/null || echo "run: status $?"' % (with_path(), whole_path(), place)
         return "\n".join(
             (
                 "made %s: links, peers, base, binkd.conf" % place,
@@ -97,23 +99,30 @@ def with_path() -> str:
     return "" if folder in ("", "/usr/bin", "/bin") else "PATH=$PATH:%s; " % folder
 
 
-def order_of(folder: str, words: list[str]) -> Order:
+def check_name(what: str, name: str) -> None:
+    """Refuses a name that binkd would read in another way."""
+    if re.search(r'[\x00-\x1f\x7f"\\]', name):
+        raise Stopped(Status.COMMAND, "the %s has a quote, a backslash or a control byte" % what)
+
+
+def order_of(folder: str, given: Given) -> Order:
     """Reads the command line."""
+    words, sysop = given.words, given.one("--sysop")
     own, uplink = address_of(words[0]), address_of(words[2])
     if own is None or uplink is None:
         raise Stopped(Status.COMMAND, "no address %s" % words[2 if own else 0])
     for what, word in (("host", words[3]), ("password", words[4])):
         if not PLAIN.fullmatch(word) or word.startswith("-"):
             raise Stopped(Status.COMMAND, "the %s has a blank, a quote or another sign that binkd reads" % what)
-    if re.search(r'[\x00-\x1f\x7f"\\]', words[1]):
-        raise Stopped(Status.COMMAND, "the name has a quote, a backslash or a control byte")
+    check_name("name", words[1])
+    check_name("name of the sysop", sysop)
     for tag in words[5:]:
         if not TAG.fullmatch(tag):
             raise Stopped(Status.COMMAND, "a tag has a blank or a control byte")
     place = os.path.realpath(folder)
     if not PLAIN_PATH.fullmatch(place):
         raise Stopped(Status.COMMAND, "the path of the station has a blank or another sign that binkd reads")
-    return Order(place, own, words[1], uplink, words[3], words[4], words[5:])
+    return Order(place, own, words[1], uplink, words[3], words[4], words[5:], sysop or words[1])
 
 
 def refuse_old(order: Order) -> None:
@@ -150,8 +159,8 @@ def check_links(disk: Disk, path: str, text: str) -> None:
 
 
 def new(folder: str, words: list[str]) -> int:
-    """The word `new`."""
-    order, disk = order_of(folder, words), Disk()
+    """The command `new`."""
+    order, disk = order_of(folder, given_by(BY_NAME["new"], words)), Disk()
     links, peers, mailer = order.links(), order.peers(), order.mailer()
     refuse_old(order)
     os.umask(0o077)

@@ -1,6 +1,7 @@
 """Gives packets to toss. Several received files are finished together, so that the disk is flushed less often."""
 from __future__ import annotations
 
+import contextlib
 import os
 import re
 import sys
@@ -74,7 +75,8 @@ class Passing:
         self.has_failed = True
         for output in received.outputs:
             if output.path != received.path:
-                remove(output.path)
+                with contextlib.suppress(OSError):
+                    self.disk.unlink(output.path)
 
     def finish(self) -> None:
         """Names the outputs, flushes, and only then removes the files that they are made of."""
@@ -142,11 +144,3 @@ class Passing:
             put_aside(self.station, received.path, received.came, received.why, received.sender)
         else:
             self.disk.unlink(received.path)
-
-
-def remove(path: str) -> None:
-    """Removes a file that was not finished."""
-    try:
-        os.unlink(path)
-    except OSError:
-        pass

@@ -1,37 +1,63 @@
-"""The file `peers`: packet passwords, types of packets, points, and the way of letters."""
+"""The file `peers`: packet passwords, types of packets, points, the way of letters, and what links may do."""
 from __future__ import annotations
 
 import re
-from dataclasses import dataclass, field, replace
 from os.path import lexists
-from typing import Optional
+from typing import NamedTuple, Optional
 
-from .addresses import Address, address_of
+from fidonet.addresses import Address, address_of
+
 from .faults import Status, Stopped
 
 MOST_BYTES = 1 << 20
 MOST_PASSWORD = 8
+LEAST_AREAFIX, MOST_AREAFIX = 6, 35
+GROUPS = re.compile("[A-Z]+")
+TAG = re.compile("[!-~]{1,60}")
+FLAGS = ("PLUS", "HOLD", "PASS")
+VALUES = ("PASSWORD", "AREAFIX", "GROUPS")
 BAD_BYTE = re.compile(rb"[^\t -~]")
 
 
-@dataclass(frozen=True)
-class Peer:
+class Peer(NamedTuple):
     """What a system wants of packets."""
 
     password: bytes = b""
     plus: bool = False
+    holds: bool = False  # the mailer does not call it
+    passes: bool = False  # letters for it and from it are passed on
+    areafix: str = ""  # the word by which its letters change what it gets
+    groups: str = ""  # of the areas that it may ask for
 
 
-@dataclass
 class Peers:
     """What the lines of the file say. A point has an address of a node, its fake one, in `links`."""
 
-    peers: dict[Address, Peer] = field(default_factory=dict)
-    real_of: dict[Address, Address] = field(default_factory=dict)
-    fake_of: dict[Address, Address] = field(default_factory=dict)
-    route: Optional[Address] = None
-    leaves: set[Address] = field(default_factory=set)
-    leaves_all: bool = False
+    def __init__(self) -> None:
+        self.peers: dict[Address, Peer] = {}
+        self.real_of: dict[Address, Address] = {}
+        self.fake_of: dict[Address, Address] = {}
+        self.route: Optional[Address] = None
+        self.leaves: set[Address] = set()
+        self.leaves_all = False
+        self.read_only: dict[str, set[Address]] = {}
+
+    def link_of(self, address: Address) -> Address:
+        """An address of the net as `links` has it: a point of this station has another one there."""
+        return self.fake_of.get(address, address)
+
+    def net_address(self, link: Address) -> Address:
+        """The address on the net of a link."""
+        return self.real_of.get(link, link)
+
+    def is_read_only(self, tag: str, link: Address) -> bool:
+        """Whether messages that a link sends of an area are not taken."""
+        listed = self.read_only.get(tag)
+        return listed is not None and (link in listed or self.net_address(link) in listed)
+
+    def has_areafix(self) -> bool:
+        """Whether any system may change by letter what it gets."""
+        return any(peer.areafix for peer in self.peers.values())
 
     def peer(self, address: Address) -> Peer:
         """What the system at this address wants: nothing, if no line names it."""
@@ -84,8 +110,23 @@ class Reader:
             address = self.address()
             self.is_new(address, address in result.leaves)
             result.leaves.add(address)
+        elif word == "READONLY":
+            self.read_read_only()
         else:
             raise self.fault("K2 BadWord")
+
+    def read_read_only(self) -> None:
+        """Reads READONLY TAG ADDRESS and further addresses."""
+        tag = self.words.pop(0) if self.words else ""
+        if not TAG.fullmatch(tag):
+            raise self.fault("K2 BadWord")
+        listed = self.result.read_only.setdefault(tag.upper(), set())
+        while True:
+            address = self.address(may_be_point=True)
+            self.is_new(address, address in listed)
+            listed.add(address)
+            if not self.words:
+                return
 
     def read_point(self) -> None:
         """Reads POINT FAKE REAL. Its packets are always of type 2+."""
@@ -97,7 +138,7 @@ class Reader:
         if not real.point:
             raise self.fault("K6 NoPoint")
         result.real_of[fake], result.fake_of[real] = real, fake
-        result.peers[fake] = replace(self.marks(), plus=True)
+        result.peers[fake] = self.marks()._replace(plus=True)
 
     def address(self, may_be_point: bool = False) -> Address:
         """The address that comes next."""
@@ -112,19 +153,22 @@ class Reader:
             raise self.fault("K4 Repeated %s" % address)
 
     def marks(self) -> Peer:
-        """PASSWORD WORD and PLUS, each once, in any order."""
-        password, plus = b"", False
+        """What follows the addresses, each once, in any order."""
+        found: dict[str, str] = {}
         while self.words:
             word = self.words.pop(0)
-            if word == "PASSWORD" and self.words and not password:
-                password = self.words.pop(0).encode("ascii")
-                if len(password) > MOST_PASSWORD:
-                    raise self.fault("K5 PasswordTooLong")
-            elif word == "PLUS" and not plus:
-                plus = True
-            else:
+            if word in found or word not in FLAGS + VALUES or (word in VALUES and not self.words):
                 raise self.fault("K2 BadWord")
-        return Peer(password, plus)
+            found[word] = self.words.pop(0) if word in VALUES else word
+        password, areafix, groups = (found.get(word, "") for word in VALUES)
+        if len(password) > MOST_PASSWORD:
+            raise self.fault("K5 PasswordTooLong")
+        if areafix and not LEAST_AREAFIX <= len(areafix) <= MOST_AREAFIX:
+            raise self.fault("K7 WordLength")
+        if groups and not GROUPS.fullmatch(groups):
+            raise self.fault("K2 BadWord")
+        plus, holds, passes = (word in found for word in FLAGS)
+        return Peer(password.encode("ascii"), plus, holds, passes, areafix, groups)
 
 
 def peers_at(path: str) -> Peers:

@@ -1,13 +1,14 @@
 """Prints the link file for others: for them a point is a part of its boss."""
 from __future__ import annotations
 
-from .addresses import address_of
+from fidonet.addresses import address_of
+
 from .faults import Status
 from .station import Station
 
 
 def publish(station: Station, _: list[str]) -> int:
-    """The word `publish`."""
+    """The command `publish`."""
     station.load()
     points = {fake for fake in station.peers.real_of if fake != station.own}
     with open(station.at("links"), encoding="utf-8", errors="surrogateescape") as file:

@@ -3,13 +3,15 @@ from __future__ import annotations
 
 from typing import Optional
 
-from .addresses import Address, address_of
-from .calls import scan_now, toss_now
+from fidonet.addresses import Address, address_of
+
 from .faults import Status, Stopped
 from .lists import make_packet, send_packet
 from .printing import shown_age, shown_path
 from .rounds import Pair, Round
+from .scan import scan_now
 from .station import Station
+from .toss import toss_now
 
 ALL, AGAIN = "--all", "--again"
 IN_ORDER = "in order"
@@ -37,7 +39,7 @@ def send_all(pair: Pair) -> None:
     """Sends all to a link that did not answer."""
     sent = make_packet(pair.station, pair.link, pair.tag)
     send_packet(pair.station, pair.link, pair.packet)
-    pair.station.note("sent all %d messages to %s, which did not answer" % (sent, pair))
+    pair.station.note("sent all %d messages to %s, which did not answer" % (sent, pair.name))
 
 
 def line_of(pair: Pair, age: str) -> Optional[str]:
@@ -45,7 +47,7 @@ def line_of(pair: Pair, age: str) -> Optional[str]:
     answer = pair.answer
     if answer is None:
         return "no answer, asked %s ago" % age
-    if answer.messages and pair.filed is None:
+    if answer.messages and not pair.has_come():
         return "packet in bad" if pair.is_in_bad() else "waits for %d messages" % answer.messages
     return None
 
@@ -64,16 +66,16 @@ class Result:
         age = shown_age(self.round.age())
         for pair in self.round.pairs:
             line, answer = line_of(pair, age), pair.answer
+            self.new += pair.filed
             if answer is None:
                 self.silent.append(pair)
             elif line:
                 self.waiting.append(pair)
             else:
-                new = pair.filed or 0
-                self.new += new
                 self.lacking += answer.lacking
-                line = "received %d, new %d; sent %d, lacking %d" % (answer.messages, new, answer.sent, answer.lacking)
-            self.round.station.say("link %s: %s" % (pair, line))
+                counts = (answer.messages, pair.filed, answer.sent, answer.lacking)
+                line = "received %d, new %d; sent %d, lacking %d" % counts
+            self.round.station.say("link %s: %s" % (pair.name, line))
 
     def is_open(self) -> bool:
         """Whether something is still to come."""
@@ -88,6 +90,8 @@ class Result:
             return "a toss was stopped in this round, so its counts may be too small"
         if self.silent:
             return "new %d, lacking %d; %d did not answer" % (self.new, self.lacking, len(self.silent))
+        if self.waiting:
+            return "new %d, lacking %d; %d on the way" % (self.new, self.lacking, len(self.waiting))
         if self.new or self.lacking:
             return "new %d, lacking %d" % (self.new, self.lacking)
         return IN_ORDER
@@ -107,7 +111,7 @@ def go_on(station: Station, with_all: bool) -> Status:
     station.say(line)
     station.log("repair %s" % line)
     if line == IN_ORDER and result.round.has_all():
-        station.disk.unlink(station.at("count"))  # the scripts may post again, also if the base has fewer messages
+        station.disk.unlink(station.at("count"))  # it may post again, also if the base has fewer messages
     result.round.end()
     return Status.GOOD if line == IN_ORDER else Status.HAND
 
@@ -142,15 +146,15 @@ def step(station: Station, options: set[str], words: list[str]) -> Status:
 
 
 def repair(station: Station, words: list[str]) -> int:
-    """The word `repair`."""
+    """The command `repair`."""
     options = {word for word in words if word.startswith("--")}
     if options - {ALL, AGAIN} or len(options) > 1:
         raise Stopped(Status.COMMAND, "repair takes --all or --again")
     words = [word for word in words if word not in options]
     for run in (toss_now, scan_now):
-        ended = run(station.folder, is_quiet=True)
+        ended = run(station, is_quiet=True)
         if ended > Status.HAND:
             return ended
     status = step(station, options, words)
     station.unlock()
-    return max(status, scan_now(station.folder, is_quiet=True))
+    return max(status, scan_now(station, is_quiet=True))

@@ -4,12 +4,12 @@ from __future__ import annotations
 import os
 
 from .bad_files import bad_files, passed_gate
-from .calls import toss_now
 from .faults import Status, Stopped
 from .inbound import next_free
 from .passing import Passing
 from .printing import shown_path
 from .station import Station
+from .toss import toss_now
 
 
 def to_toss(station: Station, name: str, passing: Passing) -> None:
@@ -46,7 +46,7 @@ def move_back(station: Station, names: list[str]) -> None:
 
 
 def retoss(station: Station, words: list[str]) -> int:
-    """The word `retoss`."""
+    """The command `retoss`."""
     station.lock("toss.lock")
     station.load()
     names = bad_files(station)
@@ -57,4 +57,4 @@ def retoss(station: Station, words: list[str]) -> int:
     move_back(station, chosen)
     station.unlock()
     station.say("retoss %d files" % len(chosen))
-    return toss_now(station.folder)
+    return toss_now(station)

@@ -1,8 +1,8 @@
 """The round of a repair that is open: the folder repair/.
 
 The file `round` has a line NUMBER LINK TAG for each question. NUMBER.list is the list that goes with it. NUMBER.asked
-says that the question was given to the scan. NUMBER.answer has the counts of the answer, and toss-inbound.sh writes
-those of its packet to NUMBER.came. The round begins when `round` gets its name, and ends when that goes."""
+says that the question was given to the scan. NUMBER.answer has the counts of the answer. A toss adds those of its
+packet to NUMBER.came, or to NUMBER.aside if it puts it aside. The round begins when `round` gets its name, and ends when that goes."""
 from __future__ import annotations
 
 import os
@@ -12,7 +12,8 @@ from dataclasses import dataclass
 from os.path import join, lexists
 from typing import Optional
 
-from .addresses import Address, address_of
+from fidonet.addresses import Address, address_of
+
 from .lists import ids_in, name_to, own_list, send_list
 from .station import Station, names_in
 
@@ -42,6 +43,11 @@ class Pair:
     def __str__(self) -> str:
         return "%s %s" % (self.link, self.tag)
 
+    @property
+    def name(self) -> str:
+        """What people are told: the address of the link on the net, and the area."""
+        return "%s %s" % (self.station.peers.net_address(self.link), self.tag)
+
     def path(self, ending: str) -> str:
         """A file of the question."""
         return self.station.at(FOLDER, "%s.%s" % (self.number, ending))
@@ -69,7 +75,7 @@ class Pair:
             send_list(self.station, self.link, name_to(self.station, self.link, self.number), file.read())
         self.station.disk.write(self.path("asked"), b"")
         self.station.disk.sync(self.station.at(FOLDER))
-        self.station.note("asked %s" % self)
+        self.station.note("asked %s" % self.name)
 
     def note_answer(self, messages: int, sent: int, lacking: int) -> None:
         """Keeps the counts of an answer."""
@@ -86,13 +92,18 @@ class Pair:
         with open(self.path("answer"), encoding="ascii") as file:
             return Answer(*map(int, file.read().split()))
 
+    def has_come(self) -> bool:
+        """Whether its packet was tossed whole."""
+        return lexists(self.path("came"))
+
     @property
-    def filed(self) -> Optional[int]:
-        """How many messages of its packet were filed, if it was tossed."""
-        if not lexists(self.path("came")):
-            return None
-        with open(self.path("came"), "rb") as file:
-            return sum(map(int, FILED.findall(file.read())))
+    def filed(self) -> int:
+        """How many messages of its packet were filed, also if it was put aside."""
+        count = 0
+        for path in filter(lexists, (self.path("came"), self.path("aside"))):
+            with open(path, "rb") as file:
+                count += sum(map(int, FILED.findall(file.read())))
+        return count
 
     def is_in_bad(self) -> bool:
         """Whether the packet was put aside."""

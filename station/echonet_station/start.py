@@ -1,116 +1,125 @@
-"""Reads the command line, and starts the work of a word."""
+"""Reads the command line, and starts the work of a command."""
 from __future__ import annotations
 
 import os
 import sys
 from importlib import import_module
-from typing import NoReturn, Optional
+from os.path import isdir
+from typing import Optional
 
-SCRIPTS = {"toss": "toss-inbound.sh", "scan": "scan-outbound.sh", "post": "post.sh", "read": "reader.sh"}
+from fidonet import outputs
+
+from .faults import Status, Stopped
+from .printing import shown_path
+from .running import whole_status_of
+from .signals import take_signals
+from .word import Word
+from .words import BY_NAME, general_help
+
 HELPS = ("-h", "--help")
-LOCKED = ("gate", "dress", "letters", "answer")  # what the scripts call under their locks
-MODULES = {"new": "making", "flow": "flows"}  # the others have the name of their word
+HERE = "."
 
 
-def script_path(name: str) -> str:
-    """Where a script of the station is: beside this package."""
-    return os.path.join(os.path.dirname(os.path.dirname(os.path.realpath(__file__))), name)
+class Line:
+    """A command line: the station, the command, and the words after it."""
+
+    def __init__(self, words: list[str]) -> None:
+        self.is_here = self.begins_with_command(words)
+        self.station = HERE if self.is_here else words[0]
+        rest = words if self.is_here else words[1:]
+        self.name, self.words = rest[0] if rest else "", rest[1:]
+        self.word: Optional[Word] = BY_NAME.get(self.name)
+
+    @staticmethod
+    def begins_with_command(words: list[str]) -> bool:
+        """Whether the station was left out. A station may have the name of a command, if a command follows."""
+        is_command = words[0] in BY_NAME or words[0] == "help"
+        return is_command and not (len(words) > 1 and words[1] in BY_NAME and isdir(words[0]))
+
+    def asks_help(self) -> bool:
+        """Whether a word asks for help."""
+        if self.word is None:
+            return self.name in ("help", *HELPS)
+        return any(word in HELPS for word in (self.words[:1] if self.word.has_free_words else self.words))
+
+    def help(self) -> str:
+        """The help that it asks for."""
+        if self.word is not None:
+            return self.word.help()
+        named = [BY_NAME[word] for word in self.words if word in BY_NAME]
+        return named[0].help() if named else general_help()
 
 
-def start_script(station: str, word: str, words: list[str]) -> NoReturn:
-    """Becomes a script. Its options come before the station."""
-    count = 0
-    while word == "read" and count < len(words) and words[count].startswith("--"):
-        count += 1
-    path = script_path(SCRIPTS[word])
-    sys.stdout.flush()
-    os.execv(path, [path, *words[:count], station, *words[count:]])
+def is_folder_of_stations(folder: str) -> bool:
+    """Whether a folder has stations. A station itself has a link file."""
+    from .several import folders_in
+
+    return isdir(folder) and bool(folders_in(folder))
 
 
-def refuse(line: str) -> int:
-    """Refuses a command line."""
-    print("echonet-station: %s" % line, file=sys.stderr)
-    return 4
+def work(line: Line, word: Word) -> int:
+    """Does the work of a command. Only its own modules are imported."""
+    if not os.path.lexists(os.path.join(line.station, "links")) and is_folder_of_stations(line.station):
+        from .several import folders_in, run_each
+
+        if not word.does_all or {"--json", "--page"} & {item.split("=")[0] for item in line.words}:
+            raise Stopped(Status.COMMAND, "%s is a folder of stations: give one" % shown_path(line.station))
+        return run_each(line.station, folders_in(line.station), lambda folder: work_at(folder, word, line.words))
+    if line.is_here and not os.path.lexists("links"):
+        raise Stopped(Status.COMMAND, "no station here: give its folder")
+    return work_at(line.station, word, line.words)
 
 
-def print_help(words: list[str]) -> Optional[int]:
-    """Prints help, if the command line asks for it."""
-    from .words import BY_NAME, general_help
+def work_at(folder: str, word: Word, words: list[str]) -> int:
+    """Does the work of a command for one station."""
+    if word.must_begin and not isdir(folder):
+        raise Stopped(Status.FAILED, "no folder %s" % shown_path(folder))
+    function = getattr(import_module("." + (word.module or word.name), __package__), word.name)
+    if word.makes_station:
+        return int(function(folder, words))
+    from .station import Station
 
+    try:
+        station = Station(folder)
+    except Stopped as fault:
+        if word.must_begin and fault.status == Status.REFUSED:
+            raise Stopped(Status.FAILED, str(fault)) from fault
+        raise
+    return int(function(station, words))
+
+
+def count_fits(word: Word, words: list[str]) -> bool:
+    """Whether a command line has as many words as the command takes."""
+    from .options import given_by
+
+    return word.least <= len(given_by(word, words).words) <= word.most
+
+
+def run(words: list[str]) -> int:
+    """Runs a command line."""
     if not words:
         print(general_help(), file=sys.stderr)
-        return 4
-    if words[0] in (*HELPS, "help"):
-        names = [word for word in words[1:] if word in BY_NAME]
-        print(BY_NAME[names[0]].help() if names else general_help())
-        return 0
+        return Status.COMMAND
     if words[0] == "--version":
         from .calls import program
 
         os.execvp(program(), [program(), "--version"])
-    if not any(word in HELPS for word in words):
-        return None
-    for word in words[:2]:
-        if word in BY_NAME:
-            print(BY_NAME[word].help())
-            return 0
-    return None
-
-
-def run(words: list[str]) -> int:
-    """Runs a command line. Returns its status."""
-    is_plain = len(words) >= 2 and words[1] in SCRIPTS and not any(word in (*HELPS, "help") for word in words[:3])
-    if not is_plain:
-        status = print_help(words)
-        if status is not None:
-            return status
-    if len(words) < 2:
-        return refuse("no command")
-    station, name, rest = words[0], words[1], words[2:]
-    if is_plain and name in ("toss", "scan") and not rest:
-        start_script(station, name, rest)
-    from .words import BY_NAME
-
-    word = BY_NAME.get(name)
-    if word is None:
-        return refuse("no command %s" % name)
-    is_locked = name in LOCKED and "--locked" in rest
-    if is_locked:
-        rest = [it for it in rest if it != "--locked"]
-    if not word.least <= len(rest) <= word.most:
-        print(word.help(), file=sys.stderr)
-        return 4
-    if name in SCRIPTS:
-        start_script(station, name, rest)
-    return work(station, name, rest, is_locked)
-
-
-def work(folder: str, name: str, words: list[str], is_locked: bool) -> int:
-    """Does the work of a word. Only its own modules are imported."""
-    from .faults import Stopped
-
-    function = getattr(import_module("." + MODULES.get(name, name), __package__), name)
-    try:
-        if name == "new":
-            return int(function(folder, words))
-        from .station import Station
-
-        station = Station(folder)
-        return int(function(station, is_locked) if name in LOCKED else function(station, words))
-    except Stopped as fault:
-        print("echonet-station: %s" % fault, file=sys.stderr)
-        return fault.status
+    if words[0] in HELPS:
+        words = ["help", *words[1:]]
+    line = Line(words)
+    if line.asks_help():
+        print(line.help())
+        return Status.GOOD
+    if line.word is None:
+        raise Stopped(Status.COMMAND, "no command %s" % line.name if line.name else "no command")
+    if not count_fits(line.word, line.words):
+        print(line.word.help(), file=sys.stderr)
+        return Status.COMMAND
+    return work(line, line.word)
 
 
 def main(words: list[str]) -> int:
-    """Runs a command line. Whatever Python raises is a failure of the device: its own status 1 means another thing."""
-    try:
-        status = int(run(words))
-        sys.stdout.flush()
-        return status
-    except OSError as fault:
-        line = "cannot use %s: %s" % (fault.filename, fault.strerror) if fault.filename else str(fault)
-    except BaseException as fault:  # pylint: disable=broad-except
-        line = "%s: %s" % (type(fault).__name__, fault)
-    os.write(2, ("echonet-station: %s\n" % line).encode("utf-8", "backslashreplace"))
-    return 3
+    """Runs a command line, and returns its status."""
+    outputs.install()
+    take_signals()
+    return whole_status_of(lambda: run(words))

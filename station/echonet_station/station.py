@@ -4,18 +4,22 @@ from __future__ import annotations
 import fcntl
 import os
 import re
+import sys
 import time
 from os.path import exists, isdir, join, lexists
 from typing import IO, Optional
 
-from .addresses import Address, address_of
+from fidonet.addresses import Address, address_of
+
+from .calls import kept_locks
 from .disk import Disk
 from .faults import Status, Stopped
 from .peers import Peers, peers_at
 
 CONTROL = re.compile(r"[\x00-\x1f\x7f]")
 FOLDERS = ("INBOUND", "OUTBOUND", "PACKETS")
-PLAIN_SETTING = re.compile(r"[ \t]*(INBOUND|OUTBOUND|PACKETS)=(?:([\w./:@%+,-]*)|'([^']*)'|\"([^\"$`\\]*)\")[ \t]*(?:#.*)?")
+SETTINGS = (*FOLDERS, "CHARSET", "RESCANNED")
+PLAIN_SETTING = re.compile(r"[ \t]*(INBOUND|OUTBOUND|PACKETS|CHARSET|RESCANNED)=(?:([\w./:@%+,-]*)|'([^']*)'|\"([^\"$`\\]*)\")[ \t]*(?:#.*)?")
 
 
 class Station:
@@ -26,13 +30,21 @@ class Station:
             raise Stopped(Status.COMMAND, "control byte in the path of the station")
         if not isdir(folder):
             raise Stopped(Status.COMMAND, "no folder %s" % folder)
+        self.given = folder
         self.folder = os.path.realpath(folder)
         self.disk = disk or Disk()
+        self.settings = settings_of(self.at("settings")) if lexists(self.at("settings")) else {}
         self.inbound, self.outbound, self.packets = self.folders()
         self.has_put_aside = False
         self.has_log = True
-        self.lock_file: Optional[IO[bytes]] = None
+        self.is_run = False  # then what needs a hand goes to standard error
+        self.is_quiet = False  # then only that is printed
+        self.locks: list[IO[bytes]] = []
         self.areas: dict[str, list[Address]] = {}
+        self.own_word = ""
+        self.peers = Peers()
+        self.point_places: set[tuple[int, int]] = set()
+        self.stated: dict[str, int] = {}  # how many messages a scan or an answer said that a packet of scanned/ has
 
     def at(self, *names: str) -> str:
         """A path below the station."""
@@ -40,8 +52,7 @@ class Station:
 
     def folders(self) -> list[str]:
         """The folders that the mailer shares, of `settings` or by default."""
-        settings = settings_of(self.at("settings")) if lexists(self.at("settings")) else {}
-        paths = [join(self.folder, settings.get(key) or key.lower()) for key in FOLDERS]
+        paths = [join(self.folder, self.settings.get(key) or key.lower()) for key in FOLDERS]
         for path in paths:
             if CONTROL.search(path):
                 raise Stopped(Status.COMMAND, "control byte in the path of a folder")
@@ -53,24 +64,27 @@ class Station:
         if own is None:
             raise Stopped(Status.REFUSED, "no own address in links")
         self.own = own
-        self.peers: Peers = peers_at(self.at("peers"))
+        self.load_peers()
         # A station that is itself a point has another address on the net.
         self.real = self.peers.real_of.get(own, own)
         self.point_places = {fake.place() for fake in self.peers.real_of if fake != own}
 
+    def load_peers(self) -> None:
+        """Reads `peers` alone, for a run that the link file does not stop."""
+        self.peers = peers_at(self.at("peers"))
+
     def read_links(self) -> Optional[Address]:
         """The own address, if the link file has exactly one. The areas go to `areas`."""
         with open(self.at("links"), "rb") as file:
-            lines = file.read().decode("latin-1").split("\n")
-        owners = []
+            lines = [line.split() for line in file.read().split(b"\n")]
+        owners = [words[1].decode("latin-1") if len(words) == 2 else "" for words in lines if words[:1] == [b"SYSTEM"]]
         self.areas = {}
-        for words in map(str.split, lines):
-            if words[:1] == ["SYSTEM"]:
-                owners.append(address_of(words[1]) if len(words) == 2 else None)
-            elif words[:1] == ["AREA"] and len(words) > 1:
-                links = map(address_of, words[2:])
-                self.areas[words[1].upper()] = [link for link in links if link]
-        return owners[0] if len(owners) == 1 else None
+        for words in lines:
+            if words[:1] == [b"AREA"] and len(words) > 1:
+                links = (address_of(word.decode("latin-1")) for word in words[2:])
+                self.areas[words[1].decode("latin-1").upper()] = [link for link in links if link]
+        self.own_word = owners[0] if len(owners) == 1 else ""
+        return address_of(self.own_word)
 
     def links(self) -> set[Address]:
         """The links of all areas."""
@@ -87,16 +101,21 @@ class Station:
         boss = join(folder, "%04x%04x" % (real.net, real.node))
         return join(boss + ".pnt", "%08x" % real.point) if real.point else boss
 
-    def lock(self, name: str, is_locked: bool = False) -> None:
-        """Waits for a lock. The scripts hold it already when they call."""
-        if not is_locked:
-            self.lock_file = open(self.at(name), "ab")
-            fcntl.flock(self.lock_file, fcntl.LOCK_EX)
+    def lock(self, name: str, is_its_run: bool = True) -> None:
+        """Waits for a lock. Its time says when its own run had it last. Programs that are called keep it."""
+        file = open(self.at(name), "ab")
+        self.locks.append(file)
+        fcntl.flock(file, fcntl.LOCK_EX)
+        if is_its_run:
+            os.utime(file.fileno())
+        kept_locks.append(file.fileno())
 
     def unlock(self) -> None:
-        """Ends the lock."""
-        if self.lock_file:
-            self.lock_file.close()
+        """Ends the locks."""
+        for file in self.locks:
+            kept_locks.remove(file.fileno())
+            file.close()
+        self.locks = []
 
     def log(self, line: str) -> None:
         """Adds a line to the log. If that fails the run goes on, and ends with status 3."""
@@ -109,7 +128,12 @@ class Station:
 
     def say(self, line: str) -> None:
         """Prints a line at once."""
-        print(line, flush=True)
+        if not self.is_quiet:
+            print(line, flush=True)
+
+    def warn(self, line: str) -> None:
+        """Prints a line that needs a hand: a run does so on standard error."""
+        print(line, flush=True, file=sys.stderr if self.is_run else sys.stdout)
 
     def note(self, line: str) -> None:
         """Prints and logs a line."""
@@ -143,12 +167,12 @@ def settings_by_shell(path: str) -> dict[str, str]:
     """The same, read by the shell."""
     import subprocess
 
-    script = '. "$0" > /dev/null; printf "%s\\0%s\\0%s" "$INBOUND" "$OUTBOUND" "$PACKETS"'
+    script = '. "$0" > /dev/null; printf "%s\\0%s\\0%s\\0%s\\0%s" "$INBOUND" "$OUTBOUND" "$PACKETS" "$CHARSET" "$RESCANNED"'
     ran = subprocess.run(["/bin/sh", "-c", script, path], stdin=subprocess.DEVNULL, stdout=subprocess.PIPE, check=False)
     values = os.fsdecode(ran.stdout).split("\0")
-    if ran.returncode or len(values) != len(FOLDERS):
+    if ran.returncode or len(values) != len(SETTINGS):
         raise Stopped(Status.REFUSED, "settings cannot be read by the shell")
-    return dict(zip(FOLDERS, values))
+    return dict(zip(SETTINGS, values))
 
 
 def names_in(folder: str) -> list[str]:

@@ -112,7 +112,7 @@ def unpack_member(archive: zipfile.ZipFile, member: zipfile.ZipInfo, path: str) 
 
 def unpack_other(path: str, kind: Optional[Kind], folder: str, result: Unpacked) -> None:
     """Unpacks by 7z: one stream of all members, cut by the sizes that it lists."""
-    program = next(filter(None, map(shutil.which, PROGRAMS)), None)
+    program = program_of(PROGRAMS)
     name = kind.value if kind else "unknown"
     if not program or kind is None or kind in UNREAD:
         result.fault = "%s bundle, and no program for it" % name
@@ -127,6 +127,15 @@ def unpack_other(path: str, kind: Optional[Kind], folder: str, result: Unpacked)
         result.fault = "encrypted"
     if not result.fault:
         cut_stream(program, path, kind, list(zip(members, sizes)), folder, result)
+
+
+def program_of(names: tuple[str, ...]) -> Optional[str]:
+    """The first of these programs that is there."""
+    for name in names:
+        found = shutil.which(name)
+        if found:
+            return found
+    return None
 
 
 def listed(program: str, path: str) -> list[dict[str, str]]:

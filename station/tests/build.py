@@ -40,6 +40,11 @@ def program() -> str:
     return os.environ.get("ECHONET", "echonet")
 
 
+def run_program(*words: str) -> str:
+    """What the program prints. It has to end well."""
+    return subprocess.run([program(), *words], stdout=subprocess.PIPE, check=True).stdout.decode()
+
+
 def header(by=UPLINK, to=OWN, password=b"", plus=False, **words) -> bytes:
     """A header. Words by name replace those of type 2 (`zones`) and 2+ (`zones2`, `points`, `capabilities`, `swapped`)."""
     zones = words.get("zones", (by[0], to[0]))
@@ -198,20 +203,20 @@ class StationCase(unittest.TestCase):
 
     def gate(self, disk: Optional[Disk] = None) -> tuple[int, list[str]]:
         """Runs the gate. Returns its status and its lines."""
-        from echonet_station.gate import gate
+        from echonet_station.gate import pass_gate
 
         with printed() as out:
-            status = gate(Station(self.top, disk), True)
+            status = pass_gate(Station(self.top, disk))
         return int(status), out.lines()
 
     def outgoing(self, disk: Optional[Disk] = None) -> tuple[int, list[str]]:
-        """Runs `letters` and `dress`, as the script does."""
-        from echonet_station.dress import dress
-        from echonet_station.letters import letters
+        """Packs letters and dresses, as a scan does."""
+        from echonet_station.dress import dress_all
+        from echonet_station.letters import pack_letters
 
         with printed() as out:
-            status = letters(Station(self.top, disk), True)
-            dress(Station(self.top, disk), True)
+            status = pack_letters(Station(self.top, disk))
+            dress_all(Station(self.top, disk))
         return int(status), out.lines()
 
     def passed(self) -> dict[str, bytes]:

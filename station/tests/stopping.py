@@ -131,6 +131,14 @@ class StoppingDisk(Disk):
             self.shadow.do({dirname(new)}, setting(new, inode))
             self.shadow.do({dirname(old)}, removing(old, inode))
 
+    def set_mode(self, path: str, mode: int) -> None:
+        self.step()
+        super().set_mode(path, mode)
+
+    def set_time(self, path: str, moment: int) -> None:
+        self.step()
+        super().set_time(path, moment)
+
     def link(self, old: str, new: str) -> None:
         self.step()
         inode = self.inode(old)

@@ -178,7 +178,7 @@ class Letters(build.StationCase):
             [
                 "letter 2.msg from 2:5020/1 to 2:5020/100",
                 "letter 3.msg from 2:5020/1 to 2:5020/100.7",
-                "put aside 1.letters.pkt: gate: 1 letters, the first for 2:5020/7",
+                "put aside 1.letters.pkt: gate: 1 letters, the first for 2:5020/7; add PASS to PEER 2:5020/1",
             ],
         )
         self.assertEqual(self.content("bad", "1.letters.pkt"), packet(letter(92, 7)))

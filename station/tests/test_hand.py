@@ -45,7 +45,7 @@ class Retoss(Handwork):
     def test_without_the_password_that_was_taken_off(self):
         self.put("links", b"SYSTEM 2:5020/100\nAREA TEST 2:5020/2\n")
         status, lines = self.bring(packet(echomail(1)))
-        self.assertEqual((status, lines), (1, ["put aside 1.pkt: filed 0 known 0 notecho 0 badtag 0 noarea 0 notlinked 1"]))
+        self.assertEqual((status, lines), (1, ["put aside 1.pkt: 1 message not from a link of TEST (subscribe 2:5020/1 TEST)"]))
         self.put("links", build.LINKS.encode())
         self.assertEqual(self.say("retoss", "1.pkt"), (0, ["retoss 1 files", WHOLE % (1, 0, 0)]))
         self.assertEqual((self.names("bad"), self.names("tossing"), self.names("gate")), ([], [], []))
@@ -111,6 +111,9 @@ class Accept(Handwork):
     def test_a_point(self):
         self.bring(build.header(by=(2, 5020, 100, 7), plus=True) + echomail(1, tag=b"NEW") + build.END)
         self.assertEqual(self.say("accept"), (0, ["new area NEW from 2:31000/7 1 messages"]))
+        self.assertEqual(self.say("accept", "NEW")[1][0], "accepted AREA NEW 2:5020/100.7")
+        self.assertIn(b" accepted AREA NEW 2:5020/100.7\n", self.content("log"))
+        self.assertIn(b"AREA NEW 2:31000/7\n", self.content("links"))
 
     def test_at_once(self):
         tags = ["NEW%d" % number for number in range(6)]
@@ -167,7 +170,7 @@ class Status(Handwork):
         self.bring(packet(echomail(1, tag=b"NEW")))
         self.put("netmail/2.msg", stored(b"x"))
         found = self.lines()
-        self.assertEqual(found["bad"], ["bad 1 files, first 1.pkt: " + WHOLE % (0, 0, 1)])
+        self.assertEqual(found["bad"], ["bad 1 files, first 1.pkt: 1 message for areas that you do not have: NEW (accept NEW)"])
         self.assertEqual(found["new"], ["new area NEW from 2:5020/1 1 messages"])
         self.assertEqual(found["hand"], ["hand bad: see bad/*.why, then retoss"])
         self.assertEqual(found["status"], ["1"])
@@ -231,11 +234,33 @@ class New(Handwork):
         for name in ("links", "peers", "binkd.conf"):
             self.assertEqual(stat.S_IMODE(os.stat(self.at(name)).st_mode), 0o600)
         status, lines = self.say("doctor")
-        bad = [line for line in lines if not line.startswith(("good ", "looks at "))]
-        self.assertEqual((status, [line for line in bad if "7z" not in line]), (1 if bad else 0, []))
+        self.assertEqual((status, [line for line in lines if not line.startswith(("good ", "looks at ", "note 7z: "))]), (0, []))
         self.assertIn("good binkd: node 2:5020/1", lines)
+        mailer = self.content("binkd.conf").decode().split("\n")
+        self.assertTrue({'sysname "My system"', 'sysop "My system"'} <= set(mailer))
+        self.assertIn('exec "%s %s run" *.pkt *.ask *.ids *.mo? *.tu? *.we? *.th? *.fr? *.sa? *.su?' % (build.TOOL, self.top), mailer)
         self.assertEqual(self.say("status")[0], 0)
         self.assertEqual(self.say("toss"), (0, []))
+
+    def test_sysop(self):
+        for option in (("--sysop", "Ann Onym"), ("--sysop=Ann Onym",)):
+            self.assertEqual(self.say("new", *option, *self.words)[0], 0)
+            self.assertTrue({'sysname "My system"', 'sysop "Ann Onym"'} <= set(self.content("binkd.conf").decode().split("\n")))
+            shutil.rmtree(self.top)
+        for word in ('quo"te', "a\nb", "a\\b"):
+            self.assertEqual(self.say("new", "--sysop", word, *self.words)[0], 4)
+        self.assertEqual(self.say("new", "--sysop=A", "--sysop=B", *self.words)[0], 4)
+        self.assertEqual(self.names(), [])
+
+    def test_without_7z(self):
+        """That is a note, and nothing bad."""
+        self.say("new", *self.words)
+        tools = os.path.join(self.work, "tools")
+        os.mkdir(tools)
+        os.symlink(build.program(), os.path.join(tools, "echonet"))
+        ran = self.run_tool("doctor", env={"PATH": tools})
+        notes = [line for line in ran.stdout.decode().split("\n") if not line.startswith(("good ", "looks at ")) and line]
+        self.assertEqual((ran.returncode, notes), (0, ["note 7z: bundles of arj, lzh and 7z go to bad/"]))
 
     def test_nothing_is_overwritten(self):
         for name in ("links", "peers", "binkd.conf", "base"):

@@ -2,7 +2,7 @@
 import unittest
 
 import build
-from echonet_station.addresses import Address, address_of
+from fidonet.addresses import Address, address_of
 from echonet_station.faults import Stopped
 from echonet_station.peers import Peer, Reader, peers_at
 
@@ -44,6 +44,13 @@ class Lines(unittest.TestCase):
         self.assertEqual(peers.route, UP)
         self.assertEqual((peers.leaves, peers.leaves_all), ({Address(21, 1, 100)}, True))
 
+    def test_words_of_a_hub(self):
+        peers = read("PEER 2:5020/1 GROUPS AZ PASS AREAFIX magic! HOLD\nPOINT 2:31000/7 2:5020/100.7 AREAFIX %s\nREADONLY test 2:5020/1\nREADONLY TEST 2:5020/100.7\n" % ("y" * 35))
+        self.assertEqual(peers.peer(UP), Peer(b"", False, True, True, "magic!", "AZ"))
+        self.assertEqual(peers.peer(Address(2, 31000, 7)).areafix, "y" * 35)
+        self.assertTrue(peers.is_read_only("TEST", UP) and peers.is_read_only("TEST", Address(2, 31000, 7)))
+        self.assertFalse(peers.is_read_only("TEST", Address(2, 5020, 2)) or peers.is_read_only("OTHER", UP))
+
     def test_no_file(self):
         self.assertEqual(peers_at("/nonexistent/peers").peers, {})
 
@@ -53,7 +60,17 @@ class Lines(unittest.TestCase):
             "PEER 2:5020/1 \xe4": "K1 BadByte",
             "peer 2:5020/1": "K2 BadWord",
             "SYSTEM 2:5020/1": "K2 BadWord",
-            "READONLY TEST 2:5020/1": "K2 BadWord",
+            "READONLY": "K2 BadWord",
+            "READONLY TEST": "K3 BadAddress",
+            "READONLY TEST 2:5020/1 x": "K3 BadAddress",
+            "READONLY TEST 2:5020/1 2:5020/1": "K4 Repeated 2:5020/1",
+            "HOLD 2:5020/1": "K2 BadWord",
+            "PEER 2:5020/1 HOLD HOLD": "K2 BadWord",
+            "PEER 2:5020/1 PASS x": "K2 BadWord",
+            "PEER 2:5020/1 GROUPS ab": "K2 BadWord",
+            "PEER 2:5020/1 AREAFIX": "K2 BadWord",
+            "PEER 2:5020/1 AREAFIX short": "K7 WordLength",
+            "POINT 2:31000/7 2:5020/100.7 AREAFIX " + "y" * 36: "K7 WordLength",
             "PEER 2:5020/1 PASSWORD": "K2 BadWord",
             "PEER 2:5020/1 PLUS PLUS": "K2 BadWord",
             "PEER 2:5020/1 PASSWORD a PASSWORD b": "K2 BadWord",

@@ -1,15 +1,16 @@
 """Rounds of repair: stations whose mailer is this test, which moves what the flow files name."""
 from __future__ import annotations
 
+import itertools
 import os
 import re
+import shutil
 import subprocess
 import unittest
 from os.path import exists, join
 
 import build
 
-SCRIPTS = build.STATION
 ADDRESS = "1:10/%d"
 FLOW = re.compile(r"([0-9a-f]{4})([0-9a-f]{4})\.flo")
 
@@ -47,8 +48,7 @@ class Net(build.StationCase):
 
     def call(self, number: int, *words: str, given=b"") -> subprocess.CompletedProcess:
         """A run of a station."""
-        tool = join(SCRIPTS, "echonet-station")
-        return subprocess.run([tool, self.of(number), *words], input=given, capture_output=True, check=False, timeout=600)
+        return subprocess.run([build.TOOL, self.of(number), *words], input=given, capture_output=True, check=False, timeout=600)
 
     def good(self, number: int, *words: str, given=b"") -> str:
         """A run that ends with 0."""
@@ -94,7 +94,7 @@ class Net(build.StationCase):
                 return
 
     def round_of(self, number: int) -> tuple[int, list[str]]:
-        """A round of a station, with its neighbours running their scripts."""
+        """A round of a station, with runs of its neighbours."""
         begun = self.call(number, "repair")
         self.assertEqual((begun.returncode, faults(begun)), (1, b""), begun.stdout)
         self.run_all()
@@ -298,6 +298,74 @@ class Rounds(Net):
     def asked(_: int, link: int) -> str:
         """The line of a question."""
         return "asked %s TEST" % (ADDRESS % link)
+
+
+class Stray(Net):
+    """Rounds in which other packets come, too."""
+
+    def setUp(self) -> None:
+        super().setUp()
+        self.serials = itertools.count(0xF0000000)
+        build.put(self.of(2, "links"), build.content(self.of(2, "links")) + b"AREA OTHER 1:10/1\n")
+
+    def stray(self, kind: str) -> None:
+        """A packet that has nothing to do with the round."""
+        header = build.header(by=(1, 10, 1, 0), to=(1, 10, 99 if kind == "other system" else 2, 0))
+        tag = b"AREA:NEW" if kind == "new area" else b"AREA:OTHER"
+        lines = tag + b"\r\1MSGID: 1:10/1 %08x\rHi\rSEEN-BY: 10/1\r\1PATH: 10/1\r" % next(self.serials)
+        content = header + build.message(lines, nets=(10, 10), nodes=(1, 2)) + build.END
+        build.put(self.of(2, "inbound", "%08x.pkt" % next(self.serials)), content[:-20] if kind == "cut" else content)
+
+    def round_with(self, kinds: tuple[str, ...]) -> tuple[int, str]:
+        """A round of the station in the middle, with stray packets in the run that tosses the answers."""
+        self.call(2, "repair", "TEST")
+        self.deliver()
+        for number in (1, 3):
+            self.good(number, "scan")
+        self.deliver()
+        for kind in kinds:
+            self.stray(kind)
+        ran = self.call(2, "repair")
+        self.run_all()
+        return ran.returncode, ran.stdout.decode().split("\n")[-2]
+
+    def ids(self, number: int) -> set[str]:
+        """The ids of an area of a station."""
+        listed = subprocess.run([build.program(), "list", "--ids", "--area", "TEST", self.of(number, "base")], capture_output=True, check=True)
+        return {line for line in listed.stdout.decode().split("\n") if line.startswith("id ")}
+
+    def test_stray_packets(self):
+        """They change no count, and the round that brings nothing is in order."""
+        for kinds in (("other system",), ("cut", "new area"), ("good", "other system", "cut", "new area", "good")):
+            for number in (1, 3):
+                self.post(number, "of %d" % number)
+            self.run_all(lost=(2,))
+            shutil.rmtree(self.of(2, "base"))
+            os.mkdir(self.of(2, "base"))
+            wanted = self.ids(1) | self.ids(3)
+            status, line = self.round_with(kinds)
+            self.assertEqual((status, line.split(",")[0]), (1, "new %d" % len(wanted)), kinds)
+            self.assertEqual(self.ids(2), wanted)
+            self.assertEqual(self.round_with(kinds), (0, "in order"), kinds)
+
+    def test_refused_message(self):
+        """What an answer brought counts, also if another message of it was refused."""
+        self.post(1, "one")
+        self.run_all(lost=(2,))
+        self.call(2, "repair", "TEST", "1:10/1")
+        self.deliver()
+        self.good(1, "scan")
+        self.deliver()
+        name = next(name for name in build.names_in(self.of(2, "inbound")) if name.endswith(".pkt"))
+        lines = b"AREA:NEW\r\1MSGID: 1:10/1 000000aa\rHi\rSEEN-BY: 10/1\r\1PATH: 10/1\r"
+        packet = build.content(self.of(2, "inbound", name))[:-2] + build.message(lines, nets=(10, 10), nodes=(1, 2)) + build.END
+        build.put(self.of(2, "inbound", name), packet)
+        ran = self.call(2, "repair")
+        self.assertEqual((ran.returncode, ran.stdout.decode().split("\n")[0]), (1, "link 1:10/1 TEST: packet in bad"))
+        self.call(2, "accept", "NEW", "1:10/1")
+        self.assertEqual(build.names_in(self.of(2, "bad")), [])
+        ran = self.call(2, "repair")
+        self.assertEqual((ran.returncode, ran.stdout.decode().split("\n")[-2]), (1, "new 2, lacking 0"))
 
 
 class Faulty(Net):

@@ -2,7 +2,6 @@
 twice."""
 import os
 import random
-import re
 import struct
 import unittest
 
@@ -10,8 +9,8 @@ import build
 from build import END, OWN, echomail, header, ids_in, letter, packet, stored, zipped
 from echonet_station import gate as gate_module
 from echonet_station import rounds, unpacking
-from echonet_station.addresses import address_of
-from echonet_station.answer import answer
+from fidonet.addresses import address_of
+from echonet_station.answer import answer_lists
 from echonet_station.repair import step
 from echonet_station.station import Station
 from stopping import Stop, StoppingDisk, copy_state, put_state
@@ -245,7 +244,7 @@ class Lists(Stopping):
 
     def run_once(self, disk=None) -> None:
         with build.printed():
-            answer(Station(self.top, disk), True)
+            answer_lists(Station(self.top, disk))
 
     def look(self, where: str) -> None:
         self.assertEqual(self.names("inbound"), [], where)
@@ -266,6 +265,8 @@ class Lists(Stopping):
 
     def test_each_place(self):
         self.assertGreater(self.stop_everywhere(), 25)
+        self.assertIn(b" answered 2:5020/100.7 TEST: 3 messages\n", self.content("log"))
+        self.assertNotIn(b"31000", self.content("log"))
 
 
 class Questions(Lists):
@@ -300,6 +301,8 @@ class Questions(Lists):
 
     def test_each_place(self):
         self.assertGreater(self.stop_everywhere(), 15)
+        self.assertIn(b" asked 2:5020/100.7 TEST\n", self.content("log"))
+        self.assertNotIn(b"31000", self.content("log"))
 
 
 class Full(build.StationCase):

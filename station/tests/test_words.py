@@ -56,15 +56,15 @@ class Manual(unittest.TestCase):
             options = "".join("[%s] " % name for name, _ in word.options)
             usage = word.usage.replace("[OPTIONS] ", options).replace("[OPTIONS]", options.strip())
             self.assertEqual(heads[word.name], re.sub("[<>]", "", usage), word.name)
-            part = commands.split(".SS " + word.name)[1].split("\n.SS ")[0]
-            self.assertEqual(re.findall(r"^\.B (--[a-z]+)$", part, re.M), [name for name, _ in word.options])
+            part = re.split(r"\.SS %s(?=[ \n])" % word.name, commands)[1].split("\n.SS ")[0]
+            self.assertEqual(re.findall(r"^\.BI? \"?(--[a-z-]+)", part, re.M), [name.split(" ")[0] for name, _ in word.options])
 
     def test_statuses(self):
         part = self.page.split(".SH EXIT STATUS")[1].split(".SH ")[0]
         self.assertEqual(tuple("  ".join(pair) for pair in re.findall(r"^\.B ([0-9])\n(.*)$", part, re.M)), ALL_STATUSES)
 
     def test_faults_of_peers(self):
-        faults = re.findall(r"K[1-6] [A-Za-z]+", build.content(os.path.join(build.STATION, "echonet_station", "peers.py")).decode())
+        faults = re.findall(r"K[1-9] [A-Za-z]+", build.content(os.path.join(build.STATION, "echonet_station", "peers.py")).decode())
         for fault in set(faults):
             self.assertIn(fault, self.page)
 
@@ -73,7 +73,7 @@ class Statuses(build.StationCase):
     """How runs end."""
 
     def test_command_lines(self):
-        for words in (("nothing",), ("gate", "x"), ("status", "x"), ("flow", "1"), ("new", "1:2/3"), ("post", "A"), ("toss", "x"), ("scan", "--locked")):
+        for words in (("nothing",), ("gate", "x"), ("status", "x"), ("flow", "1"), ("new", "1:2/3"), ("post", "A"), ("toss", "x"), ("scan", "--locked"), ("purge", "--older")):
             ran = self.run_tool(*words)
             self.assertEqual((ran.returncode, ran.stdout), (4, b""), words)
             self.assertTrue(ran.stderr)
@@ -127,20 +127,19 @@ class Statuses(build.StationCase):
         self.assertEqual((ran.returncode, ran.stdout), (3, b""))
 
 
-class Scripts(build.StationCase):
-    """The words that start scripts, and scripts that call the program."""
+class Runs(build.StationCase):
+    """Commands that move mail."""
 
-    def script(self, name: str, **environment: str) -> build.subprocess.CompletedProcess:
-        """Runs a script."""
-        env = dict(os.environ, ECHONET=build.program(), **environment)
-        return build.subprocess.run([os.path.join(build.STATION, name), self.top], capture_output=True, check=False, env=env, timeout=600)
-
-    def test_round(self):
+    def post(self) -> None:
+        """Posts a message."""
         body = os.path.join(self.work, "body")
         build.put(body, b"Hello\n")
         with open(body, "rb") as file:
             posted = self.run_tool("post", "TEST", "All", "Ann", "Hi", stdin=file)
         self.assertRegex(posted.stdout.decode(), r"^posted TEST 2:5020/100 [0-9a-f]{8}\n$")
+
+    def test_round(self):
+        self.post()
         self.put("inbound/1.su0", build.zipped(("x", build.packet(build.echomail(1), build.letter(2)))))
         tossed = self.run_tool("toss")
         self.assertEqual((tossed.returncode, tossed.stdout.decode().split("\n")[1]), (0, "filed 1 known 0 notecho 0 badtag 0 noarea 0 notlinked 0"))
@@ -158,50 +157,41 @@ class Scripts(build.StationCase):
         self.put("peers", b"x\n")
         self.put("inbound/2.pkt", build.packet(build.echomail(2)))
         self.put("tossing/00000001.pkt", build.header() + build.echomail(1) + build.END)
-        ran = self.script("toss-inbound.sh")
+        ran = self.run_tool("toss")
         self.assertEqual((ran.returncode, ran.stdout.decode()), (2, "filed 1 known 0 notecho 0 badtag 0 noarea 0 notlinked 0\n"))
         self.assertEqual(self.names("inbound"), ["2.pkt"])
 
     def test_dress_fails(self):
         """Nothing is handed over without its password."""
-        body = os.path.join(self.work, "body")
-        build.put(body, b"Hello\n")
-        with open(body, "rb") as file:
-            self.run_tool("post", "TEST", "All", "Ann", "Hi", stdin=file)
+        self.post()
         self.put("peers", b"x\n")
-        ran = self.script("scan-outbound.sh")
+        ran = self.run_tool("scan")
         self.assertEqual((ran.returncode, self.names("packets"), len(self.names("scanned"))), (2, [], 2))
         self.put("peers", build.PEERS.encode())
-        self.assertEqual(self.script("scan-outbound.sh").returncode, 0)
+        self.assertEqual(self.run_tool("scan").returncode, 0)
         self.assertEqual((len(self.names("packets")), self.names("scanned")), (2, []))
 
-    def test_without_python(self):
-        """A station with peers does nothing; one without works."""
-        tools = os.path.join(self.work, "tools")
-        os.mkdir(tools)
-        for folder in ("/usr/bin", "/bin"):
-            for name in os.listdir(folder):
-                if not name.startswith(("python", "pypy")) and not os.path.lexists(os.path.join(tools, name)):
-                    os.symlink(os.path.join(folder, name), os.path.join(tools, name))
-        content = build.header() + build.echomail(1) + build.END
-        self.put("inbound/1.pkt", content)
-        for name in ("toss-inbound.sh", "scan-outbound.sh"):
-            ran = self.script(name, PATH=tools)
-            self.assertEqual((ran.returncode, ran.stdout), (3, b""), name)
-            self.assertIn(b"needs echonet-station and python3", ran.stderr)
-        self.assertEqual(self.names(), ["inbound", "links", "peers"])
-        os.unlink(self.at("peers"))
-        ran = self.script("toss-inbound.sh", PATH=tools)
-        self.assertEqual((ran.returncode, ran.stdout.decode()), (0, "filed 1 known 0 notecho 0 badtag 0 noarea 0 notlinked 0\n"))
-
     def test_without_peers(self):
-        """A bundle stays, and no process of Python is started."""
+        """A bundle stays."""
         os.unlink(self.at("peers"))
         self.put("inbound/1.su0", build.zipped(("x", build.packet(build.echomail(1)))))
         self.put("inbound/2.pkt", build.header(password=b"any") + build.echomail(2) + build.END)
-        ran = self.script("toss-inbound.sh")
+        ran = self.run_tool("toss")
         self.assertEqual((ran.returncode, ran.stdout.decode()), (0, "filed 1 known 0 notecho 0 badtag 0 noarea 0 notlinked 0\n"))
         self.assertEqual((self.names("inbound"), self.names("gate")), (["1.su0"], []))
+
+    def test_run(self):
+        """The scan runs also if the toss failed, and the greatest status counts."""
+        self.post()
+        self.put("tossing/00000001.pkt", build.header() + build.echomail(1) + build.END)
+        self.put("peers", build.PEERS.encode())
+        os.mkdir(self.at("gate"))
+        os.mkdir(self.at("gate", "00000001.new"))  # the gate cannot remove it
+        ran = self.run_tool("run")
+        self.assertEqual((ran.returncode, len(self.names("packets"))), (3, 2))
+        os.rmdir(self.at("gate", "00000001.new"))
+        self.put("inbound/1.pkt", build.packet(build.echomail(1, tag=b"NEW")))
+        self.assertEqual(self.run_tool("run").returncode, 1)
 
 
 if __name__ == "__main__":

@@ -12,7 +12,7 @@ from typing import NamedTuple, Optional
 HERE = os.path.dirname(os.path.abspath(__file__))
 TOP = os.path.dirname(os.path.dirname(HERE))
 sys.path.insert(0, os.path.dirname(HERE))
-TOOLS = os.environ.get("TOOLS", os.path.join(TOP, "examples", "move"))
+TOOLS = os.environ.get("TOOLS", os.path.join(TOP, "tools"))
 PROGRAM = os.path.realpath(os.environ.get("ECHONET", os.path.join(TOP, "bin", "echonet")))
 PYTHON = os.environ.get("PYTHON", sys.executable)
 GONE = 0xffffffff

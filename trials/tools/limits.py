@@ -10,9 +10,7 @@ import sys
 import tempfile
 
 import fixtures
-import making
-import running
-import topologies
+from lib import making, running, topologies
 
 MOST_SECONDS, MOST_MEGABYTES = {"links-seen": 10, "net-page": 60}, {"links-seen": 200, "net-page": 2000}
 MOST_OF_A_PAGE = 20_000_000

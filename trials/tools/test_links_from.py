@@ -49,9 +49,9 @@ class Hpt(Case):
         self.assertEqual(self.run_tool("hpt", "2:5020/100", "config"), (["SYSTEM 2:5020/100", "AREA A 2:5020/1 2:5020/3"], [
             "included files that cannot be read: 2, first 'missing'", "files included again: 1, first 'config'",
             "conditions that are not judged: 1, first 'ifdef X'",
-            "links in one way there, in both ways here: 2, first 2:5020/1 of A, read-only",
             "areas that come again: 1, first 'A'",
             "areas of another own address (--aka writes them): 2, first 'B' of 1:10/2",
+            "links in one way there, in both ways here: 2, first 2:5020/1 of A, read-only",
             "points: 2, first 2:5020/2.7", "links that are not understood: 1, first '2:*/*' in A"]))
 
     def test_aka(self):
@@ -63,6 +63,45 @@ class Hpt(Case):
         self.assertEqual(files(os.path.join(self.place, "net")), {
             "2.5020.100": "SYSTEM 2:5020/100\nAREA A 2:5020/1\n", "1.10.2": "SYSTEM 1:10/2\nAREA B 1:10/1\nAREA C 1:10/3 1:10/1\n"})
         self.assertEqual(fixtures.run("links-from", "--aka", "net", "hpt", "2:5020/100", "config", cwd=self.place).status, 2)
+
+
+class Peers(Case):
+    """The file `peers`."""
+
+    def peers(self):
+        """The file, which nobody else may read."""
+        path = os.path.join(self.place, "peers")
+        self.assertEqual(os.stat(path).st_mode & 0o777, 0o600)
+        with open(path, encoding="ascii") as file:
+            return file.read().splitlines()
+
+    def test_hpt(self):
+        """Packet passwords, points of the own address, and local areas, which are counted."""
+        self.write("config", "Address 2:5020/100\nLink Up\nAka 2:5020/1@fidonet\nPassword general\npktPwd SECRET\nLink Seven\naka 2:5020/100.7\n"
+                             "password point7\nLink None\nAka 2:5020/5\nLink Long\nAka 2:5020/6\nPktPwd ninebytes\nLink Far\nAka 2:5020/9.1\nPktPwd x\n"
+                             "LocalArea LOC.JUNK /x -b Jam\nLocalArea LOC.TWO /y\nEchoArea A /a 2:5020/1 2:5020/100.7 2:5020/100.8 2:5020/9.1\nEchoArea B /b 2:5020/6\n")
+        left = ["local areas, which have no links: 2, first 'LOC.JUNK'"]
+        self.assertEqual(self.run_tool("hpt", "2:5020/100", "config"), (["SYSTEM 2:5020/100", "AREA A 2:5020/1", "AREA B 2:5020/6"], [
+            *left, "points: 3, first 2:5020/100.7"]))
+        self.assertEqual(self.run_tool("--peers", "peers", "hpt", "2:5020/100", "config"), (
+            ["SYSTEM 2:5020/100", "AREA A 2:5020/1 2:31000/7 2:31000/8", "AREA B 2:5020/6"],
+            [*left, "points: 1, first 2:5020/9.1", "passwords over eight bytes, of which packets have the first eight: 1, first 2:5020/6",
+             "links without an address, or points of others: 1, first '2:5020/9.1'"]))
+        self.assertEqual(self.peers(), ["PEER 2:5020/1 PASSWORD SECRET", "POINT 2:31000/7 2:5020/100.7 PASSWORD point7",
+                                        "PEER 2:5020/6 PASSWORD ninebyte", "POINT 2:31000/8 2:5020/100.8"])
+        self.assertEqual(fixtures.run("links-from", "--peers=peers", "hpt", "2:5020/100", "config", cwd=self.place).status, 2)
+
+    def test_others(self):
+        """The passwords of CrashMail, Squish and SBBSecho."""
+        self.write("prefs", 'NODE 1:10/1 "ZIP" "secret" AUTOADD\nNODE 1:10/3 "" ""\nLOCALAREA "LOC" 1:10/2 MSG /l\nAREA A 1:10/2\nEXPORT 1:10/1 1:10/3\n')
+        self.write("squish.cfg", "Address 1:10/2\nPassword 1:10/1 SECRET\nEchoArea A /a 1:10/1\n")
+        self.write("sbbsecho.ini", "AreaFile = areas.bbs\n[node:1:10/1@fidonet]\nPacketPwd = Secret\nSessionPwd = other\n")
+        self.write("areas.bbs", "A A 1:10/1\n")
+        for form, file, word in (("crashmail", "prefs", "secret"), ("squish", "squish.cfg", "SECRET"), ("sbbsecho", "sbbsecho.ini", "Secret")):
+            _, left = self.run_tool("--peers", "peers", form, "1:10/2", file)
+            self.assertEqual(self.peers(), ["PEER 1:10/1 PASSWORD " + word])
+            self.assertEqual(left, ["local areas, which have no links: 1, first 'LOC'"] if form == "crashmail" else [])
+            os.unlink(os.path.join(self.place, "peers"))
 
 
 class Others(Case):
@@ -108,8 +147,22 @@ class Others(Case):
         """A form that is not known, an address that is none, a file that is missing."""
         self.write("config", "")
         for words, status in ((("other", "1:10/2", "config"), 4), (("hpt", "10/2", "config"), 4), (("hpt", "1:10/2"), 4), (("--aka",), 4),
-                              (("hpt", "1:10/2", "missing"), 3), (("--bases", "--aka", "x", "hpt", "1:10/2", "config"), 4)):
+                              (("hpt", "1:10/2", "missing"), 3), (("--bases", "--aka", "x", "hpt", "1:10/2", "config"), 4),
+                              (("--bases", "--peers", "x", "hpt", "1:10/2", "config"), 4), (("--bases=x", "hpt", "1:10/2", "config"), 4)):
             self.assertEqual(fixtures.run("links-from", *words, cwd=self.place).status, status, words)
+
+
+class ReadOnly(Case):
+    """Links that may only read."""
+
+    def test_lines_of_peers(self):
+        self.write("hpt.cfg", "EchoArea ONE /x -b msg 1:10/3 -r 1:10/1.7 -r 1:10/4 -w\nEchoArea TWO /y -b msg 1:10/3 1:10/4 -r\n")
+        out, faults = self.run_tool("--peers", "peers", "hpt", "1:10/1", "hpt.cfg")
+        self.assertEqual(out, ["SYSTEM 1:10/1", "AREA ONE 1:10/3 1:31000/7 1:10/4", "AREA TWO 1:10/3 1:10/4"])
+        self.assertEqual(faults, ["links in one way there, in both ways here: 1, first 1:10/4 of ONE, write-only"])
+        with open(os.path.join(self.place, "peers"), encoding="ascii") as file:
+            lines = file.read().split("\n")
+        self.assertEqual(lines, ["POINT 1:31000/7 1:10/1.7", "READONLY ONE 1:10/3 1:31000/7", "READONLY TWO 1:10/4", ""])
 
 
 if __name__ == "__main__":

@@ -12,13 +12,12 @@ import unittest
 
 import browser
 import fixtures
-import making
-import topologies
+from lib import making, topologies
 from fixtures import write
 
 NETS = os.path.join(fixtures.TOP, "examples", "nets")
 COSTS = {"apart": "mail is lost", "chain": "nothing", "loop": "mail is sent twice", "no-such-area": "nothing", "one-sided": "mail is lost",
-         "same-net-node": "mail may be lost", "self-link": "the file is wrong", "two-files": "the file is wrong", "unknown": "mail is lost"}
+         "same-net-node": "mail may be lost", "self-link": "the file is wrong", "two-files": "the file is wrong", "unknown": "mail may be lost"}
 
 
 class Page(html.parser.HTMLParser):
@@ -126,14 +125,31 @@ class Contents(Case):
         page = self.make(*files)
         section = next(element[2] for element in page.all("section") if element[1]["id"] == "a0")
         place = self.place + "/"
-        for words in ("V4 mail is lost: 1:10/1 lists 1:10/9, and no link file of 1:10/9 has the area.%sa.links:4: AREA T 1:10/2 1:10/9 1:10/3"
+        for words in ("V4 mail may be lost: 1:10/1 lists 1:10/9, and no link file of 1:10/9 has the area.%sa.links:4: AREA T 1:10/2 1:10/9 1:10/3"
                       "1:10/9 has no file here." % place,
-                      "V4 mail is lost: 1:10/4 lists 1:10/5, and no link file of 1:10/5 has the area.%sd.links:3: AREA T 1:10/5"
+                      "V4 mail may be lost: 1:10/4 lists 1:10/5, and no link file of 1:10/5 has the area.%sd.links:3: AREA T 1:10/5"
                       "%se.links:1: SYSTEM 1:10/5 has no line for the area" % (place, place),
                       "V5 mail is lost: 1:10/1 lists 1:10/2, and 1:10/2 does not list 1:10/1.%sa.links:4: AREA T 1:10/2 1:10/9 1:10/3"
                       "%sb.links:3: AREA T" % (place, place)):
             self.assertIn(words, section)
         self.assertEqual([element[2] for element in page.all("h2")], ["T", "OTHER"])
+
+    def test_loop_behind(self):
+        """A loop behind a link on one side has its sentence, its marks, and its own picture and steps."""
+        files = self.net(a="SYSTEM 1:10/1\nAREA T 1:10/2 1:10/4\n", b="SYSTEM 1:10/2\nAREA T 1:10/1 1:10/3\n", c="SYSTEM 1:10/3\nAREA T 1:10/2 1:10/4\n",
+                         d="SYSTEM 1:10/4\nAREA T 1:10/3 1:10/1\n", e="SYSTEM 1:10/5\nAREA T 1:10/1\n")
+        page = self.make(*files)
+        area, loop = page.all("section")
+        words = "The links form a loop: 1:10/1, 1:10/2, 1:10/3, 1:10/4. 1:10/1 and 1:10/3 of it are not linked."
+        self.assertIn("V5 mail is lost: 1:10/5 lists 1:10/1, and 1:10/1 does not list 1:10/5.", area[2])
+        self.assertIn("V8 mail is sent twice: " + words, area[2])
+        self.assertIn(words, loop[2])
+        for section in (area, loop):
+            marked = [path for path in page.all("path") if "loop" in path[1].get("class", "").split() and path[1].get("id", "").startswith(section[1]["id"] + "e")]
+            self.assertEqual(len(marked), 4)
+        harm = [element[2] for element in page.all("p", "class", "harm")]
+        self.assertEqual(len(harm), 2)
+        self.assertRegex(harm[1], r"^1:10/\d is sent the message 2 times\.$")
 
     def test_steps(self):
         """The steps of the loop, in words that follow from its files."""
@@ -149,7 +165,7 @@ class Contents(Case):
     def test_harm(self):
         """On random nets the steps make as many packets for the harmed system as the harm says."""
         tried = 0
-        for seed in range(12):
+        for seed in range(40):
             net = topologies.net(random.Random(seed))
             files = [write(os.path.join(self.place, "%d.links" % at), making.link_file(system, areas))
                      for at, (system, _, areas) in enumerate(net)]

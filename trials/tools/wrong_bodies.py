@@ -14,9 +14,11 @@ from wrong_lines import WRONG
 
 
 def with_line(folder, name, line, wrong):
-    """Copies the tools, and replaces a line of one."""
-    shutil.copytree(os.path.join(fixtures.TOP, "examples", "move"), folder)
-    path = os.path.join(folder, name)
+    """Copies the tools and the formats that they read, and replaces a line of one."""
+    formats = os.path.join(os.path.dirname(folder), "fidonet")
+    shutil.copytree(os.path.join(fixtures.TOP, "tools"), folder)
+    shutil.copytree(os.path.join(fixtures.TOP, "station", "fidonet"), formats)
+    path = next(path for path in (os.path.join(folder, name), os.path.join(formats, name)) if os.path.exists(path))
     with open(path, encoding="utf-8") as file:
         content = file.read()
     if content.count(line) != 1:

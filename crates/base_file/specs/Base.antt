@@ -3,6 +3,7 @@ use Rattle.std.specs.Prelude.{◌≡◌, ◌≤◌, ⊤, ℕ, ◌∷◌, ◌++�
 use Rattle.std.specs.List.{AllByRecursion, list_any}
 use Rattle.echo_filed.specs.{declared.key.Key.Key, Filed.Filed, Filed.IsFiled, Filed.key_of, Filed.same_key}
 
+-- Some message of the base has this key.
 abbrev pub is_known : List Filed → Key → Bool
 is_known base key = list_any (λ m. same_key (key_of m) key) base
 

@@ -1,5 +1,5 @@
 -- A base in memory: its messages by their keys, and their tags.
-use Rattle.std.specs.Prelude.{◌≡◌, ◌≤◌, ℕ, true, List, map, take, bytes_eq}
+use Rattle.std.specs.Prelude.{◌≡◌, ◌≤◌, ℕ, nat_lt, true, List, map, take, Option, Some, None, bytes_eq, if◌then◌else◌}
 use Rattle.std.specs.{List.AllByRecursion, List.list_any, Ordering.is_eq, Ordering.nat_cmp, Cmp.Lexicographic.slice_cmp, Map.keys_of, Map.values_of}
 use Rattle.echo_filed.specs.{declared.key.Key.Key, Filed.Filed, Filed.key_of, Stubs.is_stub}
 use Rattle.base_file.specs.Base.{IsBase}
@@ -16,6 +16,11 @@ AreAmong tag_of sorted tags =
 pub record ArePurged (messages : List Filed) (cursor purged : ℕ) : Type 0 where
   pub within : purged ≤ cursor
   pub stubs : AllByRecursion (λ m. is_stub m ≡ true) (take purged messages)
+
+-- The number of such messages after a purge of an area, or of all, that ends there.
+abbrev pub front_after : Option (List ℕ) → ℕ → ℕ → ℕ
+front_after None purged end = if nat_lt purged end then end else purged
+front_after (Some area) purged end = purged
 
 -- The messages are a base. Each has its key, its tag is among the tags, and the first ones are purged.
 pub record AreEntries (entries : List (Key × Filed)) (tags : List (List ℕ)) (cursor purged : ℕ) : Type 0 where

@@ -1,5 +1,6 @@
 pub mod Base
 pub mod Entries
+pub mod Purging
 pub mod BaseFile
 pub mod Saving
 pub mod Loading

@@ -1,12 +1,15 @@
-ghost use Rattle.std.specs.Prelude.{◌≡◌, ℕ, List, not, [], ◌∷◌, ◌++◌, false, true, bytes_eq, length, map, take, drop, count_by, slice_get, option_copied, if◌then◌else◌, IsTrue, IfOk, OnOk, OnErr};
+//! A base in memory: messages in order of filing, each key once, and the cursor.
+
+ghost use Rattle.std.specs.Prelude.{◌≡◌, ℕ, List, not, [], ◌∷◌, ◌++◌, false, true, bytes_eq, length, map, slice_get, option_copied, if◌then◌else◌, IsTrue, IfOk, OnOk, OnErr};
 ghost use Rattle.std.specs.{List.AllByRecursion, List.list_any, Map.keys_of, Map.values_of};
-ghost use Rattle.echo_filed.specs.{Filed.has_id, Filed.key_of, Stubs.is_stub, Stubs.stub_of};
-ghost use Rattle.base_file.specs.{Entries.HasTagIn, Base.IsBase, Base.is_known};
+ghost use Rattle.echo_filed.specs.{Filed.has_id, Filed.key_of};
+ghost use Rattle.base_file.specs.{Entries.HasTagIn, Entries.front_after, Base.IsBase, Base.is_known, Purging.changed_by, Purging.left_by};
 
 mod loading;
 mod saving;
 
 use crate::purging::{lines_left, put_stubs};
+use crate::range::PurgeRange;
 use crate::tags::Tags;
 use echo_filed::{Filed, Key, by_id};
 use indexmap::IndexMap;
@@ -132,21 +135,32 @@ impl<S: BuildHasher> Base<S> {
         self.cursor = self.entries.len();
     }
 
-    /// Replaces each scanned message that has an id by its stub, which keeps only the id; answers how many changed. If
-    /// memory is refused, the base is unchanged. Messages of an earlier purge are skipped.
-    pub fn purge(&mut self) -> Result<u64, AllocError>
-        ensures count { IfOk result (λ count. count ≡ count_by (λ m. not (is_stub m)) (take self.old.cursor self.old.messages)) }
-        ensures messages { OnOk result (self.new.messages
-            ≡ map stub_of (take self.old.cursor self.old.messages) ++ drop self.old.cursor self.old.messages) }
+    /// Replaces each scanned message in the range that has an id by its stub, which keeps only the id; answers how many
+    /// changed. If memory is refused, the base is unchanged. Messages of an earlier purge of all areas are skipped.
+    pub fn purge(&mut self, range: &PurgeRange) -> Result<u64, AllocError>
+        ensures count { IfOk result (λ count. count ≡ changed_by range.now self.old.messages self.old.cursor) }
+        ensures messages { OnOk result (self.new.messages ≡ left_by range.now self.old.messages self.old.cursor) }
         ensures cursor { self.new.cursor ≡ self.old.cursor }
         ensures refused { OnErr result (self.new ≡ self.old) }
     {
         let alloc = *self.entries.allocator();
-        let lines = lines_left(alloc, &self.entries, self.purged, self.cursor)?;
+        let end = range.end(self.cursor as u64) as usize;
+        let start = self.purged.min(end);
+        let lines = lines_left(alloc, &self.entries, range, start, end)?;
         let count = lines.len() as u64;
-        put_stubs(alloc, &mut self.entries, self.purged, self.cursor, lines);
-        self.purged = self.cursor;
+        put_stubs(alloc, &mut self.entries, range, start, end, lines);
+        self.purged = front_after(range, self.purged, end);
         Ok(count)
+    }
+}
+
+// How many messages from the front are known to be stubs after a purge that ends there.
+fn front_after(range: &PurgeRange, purged: usize, end: usize) -> usize
+    ensures { result ≡ front_after range.now.area purged end }
+{
+    match range.area {
+        None if purged < end => end,
+        _ => purged,
     }
 }
 

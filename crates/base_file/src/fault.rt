@@ -1,3 +1,5 @@
+//! The faults of a base file, F1 to F7.
+
 ghost use Rattle.std.specs.Prelude.{◌≡◌};
 ghost use Rattle.base_file.specs.declared.fault.BaseFault.TheVariants as base;
 

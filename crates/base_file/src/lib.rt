@@ -11,6 +11,7 @@ mod known_lists;
 mod laws;
 mod piece;
 mod purging;
+mod range;
 mod room;
 mod tags;
 
@@ -19,4 +20,5 @@ pub use base::{Base, Head};
 pub use fault::BaseFault;
 pub use laws::{loaded_base_law, one_base_or_fault, saved_again_law, saved_base_law};
 pub use piece::{Next, judge_next, parse_head};
+pub use range::PurgeRange;
 pub use room::MessageRoom;

@@ -1,3 +1,5 @@
+//! The tags that a base has messages of, each once, in order of coming.
+
 ghost use Rattle.std.specs.Prelude.{◌≡◌, List, ℕ, [], true, map, bytes_eq, OnOk};
 ghost use Rattle.std.specs.List.{list_any};
 

@@ -1,3 +1,5 @@
+//! A fetch whose fault a command reports.
+
 ghost use Rattle.std.specs.Prelude.{◌≡◌, ◌≤◌, ◌<◌, slice_get, IfErr, OnOk};
 ghost use Rattle.{base_file.specs.Base.Base, base_folder.specs.Source.{LooksAt, ReadsLegibly}};
 ghost use Rattle.base_folder.specs.Fetching.{IsUnread};

@@ -1,3 +1,5 @@
+//! Why a folder could not be filled with the messages of another base.
+
 use crate::open_error::OpenError;
 use base_file::BaseFault;
 use base_store::StoreError;

@@ -1,3 +1,5 @@
+//! Why a base folder was not opened.
+
 ghost use Rattle.base_folder.specs.OpenError.{IsReportedAs};
 
 use base_file::BaseFault;

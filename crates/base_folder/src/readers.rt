@@ -1,3 +1,5 @@
+//! The two readers of a base: of a base file in memory, and of a base folder on a disk.
+
 ghost use Rattle.std.specs.Prelude.{◌≡◌, ◌⊎◌, IfErr, IfOk, Some};
 ghost use Rattle.{disk_io.specs.Disk.Honestly, base_folder_store.specs.Held.{HoldsBase, RepresentsBase}};
 ghost use Rattle.{base_folder_store.specs.{Opened.held_by, Vouched.IsLookedAt}, cmd_status.specs.{Ended.IsOutOfMemory, Inputs.{IsBaseFault, IsBaseGiven}}};

@@ -1,3 +1,5 @@
+//! Why the messages of a base did not go out as a base file.
+
 use base_file::BaseFault;
 use disk_io::Failure;
 use std::alloc::AllocError;

@@ -1,3 +1,5 @@
+//! The trait of all that gives messages one by one.
+
 ghost use Rattle.std.specs.Prelude.{◌≡◌, ◌<◌, length, slice_get, option_copied, IsErrOf};
 ghost use Rattle.base_file.specs.Base.{Base, IsBase};
 ghost use Rattle.{base_folder_store.specs.Answers.{Answers, HasReadCause}, base_folder.specs.Source.{LooksAt, ReadsLegibly, SourceState}};

@@ -3,7 +3,7 @@ use Rattle.std.proofs.Common.{◌≡◌, ◌+◌, ◌*◌, ◌^◌, ◌<◌, ◌
 use Rattle.std.{proofs.lemmas.{Bool.{cond-true, lt-ltb}, List.{length-drop, length-map, length-take-le}}, specs.List.{AllByRecursion, flat_map}}
 use Rattle.echo_packet.specs.Header.{word}
 use Rattle.echo_filed.specs.{Stored.{IsStored, Stored, after_length, last_bytes, stored_bytes}, Filed.Filed, declared.stored.Version.TheVariants.Second}
-use Rattle.base_file.specs.Base.{Base}
+use Rattle.base_file.specs.{Base.Base, declared.range.PurgeRange.PurgeRange}
 use Rattle.base_log.specs.Standing.{BaseBytes}
 use Rattle.base_store.specs.Keys.{HasBytesOf, AreWhereRecorded, place_at, place_behind}
 use Rattle.base_folder_store.specs.{Added.LacksRoom, Added.next_place, Added.with_stored, Held.HoldsBase, Left.HoldsLeft, Left.first_left, declared.folder.Folder.Folder}
@@ -34,21 +34,21 @@ pub shorter_more : (base : List Filed) (was held now : BaseBytes) (place number 
     → length held.messages ≤ place_at was.keys place → length bytes ≤ length (stored_bytes Second s) → now ≡ with_stored held bytes number → place + 1 < length base → length now.messages ≤ place_at was.keys (place + 1)
 shorter_more base was held now place number bytes s recorded has less shorter staged within = grind (arith, cond-true, nat_lt, lt-ltb, reaches, length-append)
 
-pub room_left : (keyed : ℕ → ℕ → List ℕ → ℕ) (base : Base) (was held : BaseBytes) (next : Folder) (place bytes : ℕ) (s : Stored) → HoldsBase keyed was base → HoldsLeft keyed base was place held → place < length base.messages
+pub room_left : (range : PurgeRange) (keyed : ℕ → ℕ → List ℕ → ℕ) (base : Base) (was held : BaseBytes) (next : Folder) (place bytes : ℕ) (s : Stored) → HoldsBase keyed was base → HoldsLeft range keyed base was place held → place < length base.messages
     → HasBytesOf was.messages was.keys place s → bytes ≤ length (stored_bytes Second s) → length held.messages ≡ next_place next → length held.keys ≡ next.keys → next.keys ≡ next.recorded.keys + length next.waiting.keys.items
     → LacksRoom next bytes → ⊥
-room_left keyed base was held next place bytes s holds left within has shorter messages keys sum lacks =
+room_left range keyed base was held next place bytes s holds left within has shorter messages keys sum lacks =
     let behind = reaches was.messages was.keys place s has in
     let ends = has.ends in
     let long = holds.files.long in
     let less = left.shorter within in
     let few = keys_few keyed was base holds in
-    let entries : length held.keys ≡ 16 * place = first_keys keyed base held place within left.left in
+    let entries : length held.keys ≡ 16 * place = first_keys range keyed base held place within left.left in
     elim lacks [
       | inl (inl bytes_more) ↦ omega (arith, behind, ends, long, less, shorter, messages, bytes_more)
       | inl (inr keys_more) ↦ omega (arith, few, entries, within, keys, keys_more)
       | inr keys_more ↦ omega (arith, few, entries, within, keys, sum, keys_more)
     ]
   where
-    first_keys : (keyed : ℕ → ℕ → List ℕ → ℕ) (base : Base) (held : BaseBytes) (place : ℕ) → place < length base.messages → HoldsBase keyed held (first_left base place) → length held.keys ≡ 16 * place
-    first_keys keyed base held place within holds = omega (arith, (recorded_where keyed held (first_left base place) holds).many, first_many base place within)
+    first_keys : (range : PurgeRange) (keyed : ℕ → ℕ → List ℕ → ℕ) (base : Base) (held : BaseBytes) (place : ℕ) → place < length base.messages → HoldsBase keyed held (first_left range base place) → length held.keys ≡ 16 * place
+    first_keys range keyed base held place within holds = omega (arith, (recorded_where keyed held (first_left range base place) holds).many, first_many range base place within)

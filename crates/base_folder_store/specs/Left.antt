@@ -1,26 +1,25 @@
 -- A purge of a base folder, message by message.
-use Rattle.std.specs.Prelude.{◌≡◌, ◌≢◌, ◌≤◌, ◌<◌, ◌^◌, ℕ, Bool, true, false, not, ◌&&◌, List, length, take, count_by, Result, IsErrOf}
+use Rattle.std.specs.Prelude.{◌≡◌, ◌≢◌, ◌≤◌, ◌<◌, ◌^◌, ℕ, Bool, ◌&&◌, List, length, take, count_by, Option, Result, IsErrOf}
 use Rattle.disk_io.specs.{Device.Failed, Disk.DiskState, Disk.Honestly}
-use Rattle.base_file.specs.{Alone.IsStoredAlone, Base.Base}
-use Rattle.echo_filed.specs.{Filed.Filed, Stored.Stored, Stored.message_in, Stored.stored_bytes, declared.stored.Version.TheVariants.Second, Stubs.is_stub, Stubs.stub_of}
+use Rattle.base_file.specs.{Alone.IsStoredAlone, Base.Base, Purging.{is_changed, is_within, purge_end, stub_if}, declared.range.PurgeRange.PurgeRange}
+use Rattle.echo_filed.specs.{Filed.Filed, Stored.Stored, Stored.message_in, Stored.stored_bytes, declared.stored.Version.TheVariants.Second}
 use Rattle.base_log.specs.Standing.{BaseBytes}
 use Rattle.base_store.specs.{Keys.place_at, Store.purged, declared.store_error.StoreError.StoreError}
 use Rattle.base_store.specs.declared.store_error.StoreError.TheVariants as error
 use Rattle.base_folder_store.specs.Opened.{IsLegible, IsNamed, IsOpen, IsWritten, committed_by, held_by, path_of}
 use Rattle.base_folder_store.specs.{Vouched.AreBytesAt, Added.next_place, Added.with_stored, Held.HoldsBase, declared.folder.Folder.Folder, declared.leaving.PurgedBytes.PurgedBytes}
 
--- A scanned message becomes its stub, and any other message stays.
-abbrev pub left_if : Bool → Filed → Filed
-left_if true m = stub_of m
-left_if false m = m
+-- What a purge of an area leaves of a message, which stands before its end or not.
+abbrev pub left_if : Option (List ℕ) → Bool → Filed → Filed
+left_if area before m = stub_if (before && is_within area m) m
 
 -- The first messages of a base after a purge, with the cursor still at 0.
-abbrev pub first_left : Base → ℕ → Base
-first_left base count = record { messages = take count (purged base).messages; cursor = 0 }
+abbrev pub first_left : PurgeRange → Base → ℕ → Base
+first_left range base count = record { messages = take count (purged range base).messages; cursor = 0 }
 
 -- The number of the first messages that a purge changes.
-abbrev pub changed_in : Base → ℕ → ℕ
-changed_in base count = count_by (λ m. not (is_stub m)) (take count (take base.cursor base.messages))
+abbrev pub changed_in : PurgeRange → Base → ℕ → ℕ
+changed_in range base count = count_by (is_changed range.area) (take count (take (purge_end range base.cursor) base.messages))
 
 -- A folder with its committed files, and the same folder with the new files that will replace them, under another number.
 pub record IsStagedIn (folder next : Folder) : Type 0 where
@@ -42,14 +41,14 @@ pub record ArePaired (disk : DiskState) (folder next : Folder) : Type 0 where
   pub named : IsNamed next
 
 -- The bytes are a stored message after a purge, with no more bytes than before. `changed` shows if the purge changed it.
-pub record IsLeftOf (scanned : Bool) (s : Stored) (left : PurgedBytes) : Type 0 where
-  pub stored : IsStoredAlone (left_if scanned (message_in Second s)) left.bytes.items
+pub record IsLeftOf (area : Option (List ℕ)) (before : Bool) (s : Stored) (left : PurgedBytes) : Type 0 where
+  pub stored : IsStoredAlone (left_if area before (message_in Second s)) left.bytes.items
   pub shorter : length left.bytes.items ≤ length (stored_bytes Second s)
-  pub changed : left.changed ≡ (scanned && not (is_stub (message_in Second s)))
+  pub changed : left.changed ≡ (before && is_changed area (message_in Second s))
 
 -- The bytes have the first messages of a base after a purge, with no more bytes than before.
-pub record HoldsLeft (keyed : ℕ → ℕ → List ℕ → ℕ) (base : Base) (was : BaseBytes) (place : ℕ) (held : BaseBytes) : Type 0 where
-  pub left : HoldsBase keyed held (first_left base place)
+pub record HoldsLeft (range : PurgeRange) (keyed : ℕ → ℕ → List ℕ → ℕ) (base : Base) (was : BaseBytes) (place : ℕ) (held : BaseBytes) : Type 0 where
+  pub left : HoldsBase keyed held (first_left range base place)
   pub shorter : place < length base.messages → length held.messages ≤ place_at was.keys place
 
 -- A message can be read of the bytes that the entry of this number names.
@@ -64,11 +63,11 @@ abbrev pub AreLegible : BaseBytes → ℕ → Type 0
 AreLegible held count = (i : ℕ) → i < count → i < held.cursor → IsLegibleAt held i
 
 -- The folder is purged up to this number, and was read so far: `next` has the purged messages before it. Eight bytes can count the messages.
-pub record IsPurgedTo (disk : DiskState) (folder next : Folder) (place : ℕ) : Type 0 where
+pub record IsPurgedTo (range : PurgeRange) (disk : DiskState) (folder next : Folder) (place : ℕ) : Type 0 where
   pub paired : ArePaired disk folder next
   pub opened : Honestly disk (IsOpen disk next)
   pub few : next_place folder < 2 ^ 64
-  pub left : Honestly disk ((keyed : ℕ → ℕ → List ℕ → ℕ) (base : Base) → HoldsBase keyed (committed_by disk next) base → HoldsLeft keyed base (committed_by disk next) place (held_by disk next))
+  pub left : Honestly disk ((keyed : ℕ → ℕ → List ℕ → ℕ) (base : Base) → HoldsBase keyed (committed_by disk next) base → HoldsLeft range keyed base (committed_by disk next) place (held_by disk next))
   pub read : Honestly disk (AreLegible (committed_by disk next) place)
 
 -- The folder has one message more, and eight bytes can still count the messages.

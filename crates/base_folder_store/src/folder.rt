@@ -1,3 +1,5 @@
+//! An open base folder: its log, its extents and what is in memory of them.
+
 ghost use Rattle.std.specs.Prelude.{◌≡◌, ◌/◌, IfOk};
 ghost use Rattle.disk_io.specs.{Disk.Honestly, Runs.HasCause, Runs.LeavesOnly};
 ghost use Rattle.base_log.specs.{Moments.KeepsOutside, Opening.AreAlone, Opening.RepresentsOrWasLeft, Standing.base_at};

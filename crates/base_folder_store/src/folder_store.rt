@@ -1,3 +1,5 @@
+//! A base folder as a store.
+
 ghost use Rattle.std.specs.Prelude.{◌≡◌, true, false};
 ghost use Rattle.disk_io.specs.Disk.{Honestly};
 ghost use Rattle.base_file.specs.Base.{Base};
@@ -9,6 +11,7 @@ use crate::alone::bytes_alone;
 use crate::folder::Folder;
 use crate::read_ahead::Buffers;
 use crate::sought::Id;
+use base_file::PurgeRange;
 use base_log::FolderIdentity;
 use base_store::{Digest, Index, PurgedStore, Store, StoreError, note_look};
 use disk_io::Disk;
@@ -187,11 +190,11 @@ impl<D: Disk, H: Digest> Store for FolderStore<D, H> {
 }
 
 impl<D: Disk, H: Digest> PurgedStore for FolderStore<D, H> {
-    fn purge(&mut self) -> Result<u64, StoreError> {
+    fn purge(&mut self, range: &PurgeRange) -> Result<u64, StoreError> {
         let index = Index::new(self.alloc);
         self.index = index;
         let buffers = Buffers::new(self.alloc);
         self.buffers = buffers;
-        self.folder.purge(self.alloc, &mut self.disk)
+        self.folder.purge(self.alloc, &mut self.disk, range)
     }
 }

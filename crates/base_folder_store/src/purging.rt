@@ -1,8 +1,7 @@
 //! A purge: what it leaves of each message is staged in files of another number, which the next commit names.
-ghost use Rattle.std.specs.Prelude.{◌≡◌, ◌≢◌, ◌<◌, ◌+◌, ◌/◌, ◌^◌, ℕ, List, [], length, not, take, count_by, IfOk, IsErrOf, OnOk, if◌then◌else◌};
+ghost use Rattle.std.specs.Prelude.{◌≡◌, ◌≢◌, ◌<◌, ◌+◌, ◌/◌, ◌^◌, ℕ, List, [], length, IfOk, IsErrOf, OnOk, if◌then◌else◌};
 ghost use Rattle.disk_io.specs.Disk.{Honestly};
-ghost use Rattle.base_file.specs.Base.{Base};
-ghost use Rattle.echo_filed.specs.Stubs.{is_stub};
+ghost use Rattle.base_file.specs.{Base.Base, Purging.changed_by};
 ghost use Rattle.base_log.specs.AtRest.{IsAtRest};
 ghost use Rattle.base_store.specs.Store.{purged};
 ghost use Rattle.base_folder_store.specs.Calls.{CommitsOnly, HasWriteCause, StagesOnly, StaysInFiles, StaysOpen};
@@ -12,6 +11,7 @@ ghost use Rattle.base_folder_store.specs.{Added.IsFull, Added.LacksRoom, Answers
 use crate::folder::Folder;
 use crate::leaving::left_of;
 use crate::waiting::Waiting;
+use base_file::PurgeRange;
 use base_log::{Names, stage_anew};
 use base_store::StoreError;
 use disk_io::Disk;
@@ -67,13 +67,14 @@ impl Folder {
         alloc: Global,
         disk: &mut D,
         next: &mut Folder,
+        range: &PurgeRange,
         place: usize,
     ) -> Result<bool, StoreError>
         requires within { place < self.now.keys / 16 }
-        requires purged { IsPurgedTo (D.state disk.old) self.now next.old place }
-        ensures purged { OnOk result (IsPurgedTo (D.state disk.new) self.now next.new (place + 1)) }
+        requires purged { IsPurgedTo range.now (D.state disk.old) self.now next.old place }
+        ensures purged { OnOk result (IsPurgedTo range.now (D.state disk.new) self.now next.new (place + 1)) }
         ensures changed { Honestly (D.state disk.new) ((keyed : ℕ → ℕ → List ℕ → ℕ) (base : Base) → HoldsBase keyed (committed_by (D.state disk.old) next.old) base
-            → IfOk result (λ one. changed_in base (place + 1) ≡ changed_in base place + (if one then 1 else 0))) }
+            → IfOk result (λ one. changed_in range.now base (place + 1) ≡ changed_in range.now base place + (if one then 1 else 0))) }
         ensures same { Honestly (D.state disk.new) (OnOk result (committed_by (D.state disk.new) next.new ≡ committed_by (D.state disk.old) next.old)) }
         ensures run { StagesOnly (path_of next.old) (committed_by (D.state disk.old) next.old) (D.state disk.old) (D.state disk.new) }
         ensures cause { HasPurgeCause (D.state disk.new) (committed_by (D.state disk.old) next.old) (D.failures disk.old) (D.failures disk.new) result }
@@ -81,8 +82,11 @@ impl Folder {
     {
         let stored = self.stored(alloc, disk, None, place)?;
         let digest = stored.digest;
-        let scanned = (place as u64) < self.end.recorded.cursor;
-        let left = left_of(alloc, stored.bytes, scanned)?;
+        let cursor = self.end.recorded.cursor;
+        let scanned = (place as u64) < cursor;
+        let end = range.end(cursor);
+        let before = (place as u64) < end;
+        let left = left_of(alloc, stored.bytes, range, scanned, before)?;
         next.stage_left(disk, &left.bytes, digest)?;
         Ok(left.changed)
     }
@@ -115,11 +119,12 @@ impl Folder {
         alloc: Global,
         disk: &mut D,
         next: &mut Folder,
+        range: &PurgeRange,
     ) -> Result<u64, StoreError>
-        requires { IsPurgedTo (D.state disk.old) self.now next.old 0 }
-        ensures purged { OnOk result (IsPurgedTo (D.state disk.new) self.now next.new (self.now.keys / 16)) }
+        requires { IsPurgedTo range.now (D.state disk.old) self.now next.old 0 }
+        ensures purged { OnOk result (IsPurgedTo range.now (D.state disk.new) self.now next.new (self.now.keys / 16)) }
         ensures changed { Honestly (D.state disk.new) ((keyed : ℕ → ℕ → List ℕ → ℕ) (base : Base) → HoldsBase keyed (committed_by (D.state disk.old) next.old) base
-            → IfOk result (λ count. count ≡ changed_in base (length base.messages))) }
+            → IfOk result (λ count. count ≡ changed_in range.now base (length base.messages))) }
         ensures same { Honestly (D.state disk.new) (OnOk result (committed_by (D.state disk.new) next.new ≡ committed_by (D.state disk.old) next.old)) }
         ensures run { StagesOnly (path_of next.old) (committed_by (D.state disk.old) next.old) (D.state disk.old) (D.state disk.new) }
         ensures cause { HasPurgeCause (D.state disk.new) (committed_by (D.state disk.old) next.old) (D.failures disk.old) (D.failures disk.new) result }
@@ -127,21 +132,26 @@ impl Folder {
     {
         let mut changed = 0u64;
         'messages: for place in 0..self.count() {
-            let one = self.leave_next(alloc, disk, next, place)?;
+            let one = self.leave_next(alloc, disk, next, range, place)?;
             changed += one_if(one);
         }
         Ok(changed)
     }
 
-    /// Commits its contents, and then purges: a scanned message with an id keeps only the id of its text. Returns how
-    /// many changed. The next commit keeps the purge. After an error open the folder again.
-    pub fn purge<D: Disk>(&mut self, alloc: Global, disk: &mut D) -> Result<u64, StoreError>
+    /// Commits its contents, and then purges: a scanned message in the range that has an id keeps only the id of its
+    /// text. Returns how many changed. The next commit keeps the purge. After an error open the folder again.
+    pub fn purge<D: Disk>(
+        &mut self,
+        alloc: Global,
+        disk: &mut D,
+        range: &PurgeRange,
+    ) -> Result<u64, StoreError>
         requires { IsUsable (D.state disk.old) self.old }
         ensures stays { StaysOpen self.old self.new (D.state disk.new) result }
         ensures purged { Honestly (D.state disk.new) ((keyed : ℕ → ℕ → List ℕ → ℕ) (base : Base) → HoldsBase keyed (held_by (D.state disk.old) self.old) base
-            → OnOk result (HoldsBase keyed (held_by (D.state disk.new) self.new) (purged base))) }
+            → OnOk result (HoldsBase keyed (held_by (D.state disk.new) self.new) (purged range.now base))) }
         ensures count { Honestly (D.state disk.new) ((keyed : ℕ → ℕ → List ℕ → ℕ) (base : Base) → HoldsBase keyed (held_by (D.state disk.old) self.old) base
-            → IfOk result (λ count. count ≡ count_by (λ m. not (is_stub m)) (take base.cursor base.messages))) }
+            → IfOk result (λ count. count ≡ changed_by range.now base.messages base.cursor)) }
         ensures committed { Honestly (D.state disk.new) (OnOk result (committed_by (D.state disk.new) self.new ≡ held_by (D.state disk.old) self.old)) }
         ensures read { Honestly (D.state disk.new) (OnOk result (AreLegible (held_by (D.state disk.old) self.old) (length (held_by (D.state disk.old) self.old).keys / 16))) }
         ensures run { CommitsOnly (path_of self.old) (committed_by (D.state disk.old) self.old) (held_by (D.state disk.old) self.old) (D.state disk.old) (D.state disk.new) }
@@ -151,7 +161,7 @@ impl Folder {
         self.commit(disk)?;
         is_counted(self.recorded.messages);
         let mut next = self.anew(alloc, disk)?;
-        let changed = self.leave_all(alloc, disk, &mut next)?;
+        let changed = self.leave_all(alloc, disk, &mut next, range)?;
         next.recorded.cursor = self.end.recorded.cursor;
         *self = next;
         Ok(changed)

@@ -1,3 +1,5 @@
+//! Bytes of an extent that are read ahead, since most look-ups go on where the last one ended.
+
 ghost use Rattle.std.specs.Prelude.{◌≡◌, ◌≤◌, ◌-◌, true, false, ℕ, List, length, take, drop, IfSome, IsSome, OnOk};
 ghost use Rattle.disk_io.specs.{Disk.Honestly, Runs.ChangesNothing, Runs.HasCause};
 ghost use Rattle.base_folder_store.specs.{Ahead.{AreParts, Covers, IsPartOf}, Extent.{IsReadable, bytes_of, size_of}};

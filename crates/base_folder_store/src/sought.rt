@@ -1,3 +1,5 @@
+//! What a look-up seeks: a key, or an id.
+
 ghost use Rattle.std.specs.Prelude.{◌≡◌, Bool, true, IfOk, IsErrOf, IsTrue};
 ghost use Rattle.echo_filed.specs.Filed.{Filed, has_id, key_of, same_key};
 ghost use Rattle.base_file.specs.Alone.{IsStoredAlone};

@@ -1,3 +1,5 @@
+//! The messages that were filed and not yet written, with their keys.
+
 ghost use Rattle.std.specs.Prelude.{◌≡◌, ◌++◌, [], OnOk};
 
 use std::alloc::{AllocError, Global};

@@ -1,3 +1,5 @@
+//! Why work on a base folder stopped.
+
 use disk_io::DiskError;
 use std::alloc::{AllocError, AllocFailed};
 use thiserror::Error;

@@ -1,3 +1,5 @@
+//! Files of numbers that no longer count are removed.
+
 ghost use Rattle.std.specs.Prelude.{◌≡◌, ◌≢◌, ℕ, List, None, OnOk};
 ghost use Rattle.disk_io.specs.{Disk.Honestly, Runs.HasCause};
 ghost use Rattle.base_log.specs.{Names.AreNames, Names.IsOtherNumber, Names.folder_of, Standing.base_at, AtRest.IsAtRest, Opening.AreGone, Moments.LeavesOutside, Moments.StagesOnly};

@@ -1,8 +1,8 @@
 -- The messages of a store, and the effects of its calls on them.
-use Rattle.std.specs.Prelude.{◌≡◌, ◌≤◌, ◌⊎◌, ◌↔◌, ℕ, List, [], ◌∷◌, ◌++◌, length, map, take, drop, Option, None, Result, IsErrOf, OnOk}
+use Rattle.std.specs.Prelude.{◌≡◌, ◌≤◌, ◌⊎◌, ◌↔◌, ℕ, List, [], ◌∷◌, ◌++◌, length, Option, None, Result, IsErrOf, OnOk}
 use Rattle.disk_io.specs.{Device.Failed, Disk.DiskState, Disk.Files, Disk.Honestly, Runs.LeavesOnly, Runs.ChangesNothing, declared.disk_error.DiskError.DiskError}
-use Rattle.base_file.specs.Base.{Base}
-use Rattle.echo_filed.specs.{Filed.Filed, Stubs.stub_of}
+use Rattle.base_file.specs.{Base.Base, Purging.left_by, declared.range.PurgeRange.PurgeRange}
+use Rattle.echo_filed.specs.{Filed.Filed}
 use Rattle.base_store.specs.declared.store_error.StoreError.{StoreError}
 use Rattle.base_store.specs.declared.store_error.StoreError.TheVariants as error
 use Rattle.disk_io.specs.declared.disk_error.DiskError.TheVariants as disk_error
@@ -46,9 +46,9 @@ with_message base message = record { messages = base.messages ++ message ∷ [];
 abbrev pub all_scanned : Base → Base
 all_scanned base = record { messages = base.messages; cursor = length base.messages }
 
--- The base with its scanned messages as a purge leaves them.
-abbrev pub purged : Base → Base
-purged base = record { messages = map stub_of (take base.cursor base.messages) ++ drop base.cursor base.messages; cursor = base.cursor }
+-- The base with its messages as a purge of this range leaves them.
+abbrev pub purged : PurgeRange → Base → Base
+purged range base = record { messages = left_by range base.messages base.cursor; cursor = base.cursor }
 
 -- Files represent the same bases, the same paths belong to the store, and it undoes failed changes exactly if it did before.
 -- A look that did not end well is not forgotten.

@@ -1,9 +1,11 @@
+//! A base in memory as a store.
+
 ghost use Rattle.std.specs.Prelude.{◌≡◌, slice_get};
 ghost use Rattle.base_store.specs.Store.{no_disk};
 
 use crate::store::{PurgedStore, Store};
 use crate::store_error::StoreError;
-use base_file::Base;
+use base_file::{Base, PurgeRange};
 use echo_filed::{Filed, Key};
 use std::hash::BuildHasher;
 
@@ -89,7 +91,7 @@ impl<S: BuildHasher> Store for MemoryStore<S> {
 }
 
 impl<S: BuildHasher> PurgedStore for MemoryStore<S> {
-    fn purge(&mut self) -> Result<u64, StoreError> {
-        Ok(self.base.purge()?)
+    fn purge(&mut self, range: &PurgeRange) -> Result<u64, StoreError> {
+        Ok(self.base.purge(range)?)
     }
 }

@@ -1,3 +1,5 @@
+//! The note that a look-up failed, so that its answer is not taken for a no.
+
 ghost use Rattle.std.specs.Prelude.{◌≡◌, false, true, IsErr, OnOk};
 
 use crate::store_error::StoreError;

@@ -1,3 +1,5 @@
+//! The digests of keys, by SipHash with a key of the base.
+
 ghost use Rattle.std.proofs.Common.{arith};
 ghost use Rattle.base_store.specs.Sip.{sip_digest};
 

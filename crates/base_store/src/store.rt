@@ -1,10 +1,13 @@
-ghost use Rattle.std.specs.{Prelude.{◌≡◌, ◌<◌, ℕ, not, false, length, take, count_by, slice_get, option_copied, IfOk, IsErrOf, OnOk, OnErr}, List.list_any};
+//! The trait of all that holds the messages of a system.
+
+ghost use Rattle.std.specs.{Prelude.{◌≡◌, ◌<◌, ℕ, false, length, slice_get, option_copied, IfOk, IsErrOf, OnOk, OnErr}, List.list_any};
 ghost use Rattle.disk_io.specs.{Disk.Honestly, Runs.ChangesNothing};
-ghost use Rattle.base_file.specs.Base.{Base, IsBase, is_known};
-ghost use Rattle.echo_filed.specs.{Filed.has_id, Filed.key_of, Stubs.is_stub};
+ghost use Rattle.base_file.specs.{Base.Base, Base.IsBase, Base.is_known, Purging.changed_by};
+ghost use Rattle.echo_filed.specs.Filed.{has_id, key_of};
 ghost use Rattle.base_store.specs.Store.{StoreState, LooksOn, CommitsNothing, MayCommit, GoesOn, KeepsOrCommits, Undoes, Commits, HasStoreCause, with_message, all_scanned, purged};
 
 use crate::store_error::StoreError;
+use base_file::PurgeRange;
 use echo_filed::{Filed, Key};
 
 /// The messages of a system in order of filing, no key twice; those before the cursor were scanned. A commit makes
@@ -99,13 +102,13 @@ pub trait Store {
 
 /// A store that can purge scanned messages.
 pub trait PurgedStore: Store {
-    /// Replaces each scanned message that has an id by its stub, which keeps only the id, and answers how many
-    /// changed. It may commit messages filed before; the purge itself waits for the next commit.
-    fn purge(&mut self) -> Result<u64, StoreError>
+    /// Replaces each scanned message in the range that has an id by its stub, which keeps only the id, and answers how
+    /// many changed. It may commit messages filed before; the purge itself waits for the next commit.
+    fn purge(&mut self, range: &PurgeRange) -> Result<u64, StoreError>
         requires { (Self.state self.old).is_ready }
         ensures count { Honestly (Self.state self.new).disk ((base : Base) → (Self.state self.old).keeps base
-            → IfOk result (λ count. count ≡ count_by (λ m. not (is_stub m)) (take base.cursor base.messages))) }
-        ensures purged { Honestly (Self.state self.new).disk ((base : Base) → (Self.state self.old).keeps base → OnOk result ((Self.state self.new).keeps (purged base))) }
+            → IfOk result (λ count. count ≡ changed_by range.now base.messages base.cursor)) }
+        ensures purged { Honestly (Self.state self.new).disk ((base : Base) → (Self.state self.old).keeps base → OnOk result ((Self.state self.new).keeps (purged range.now base))) }
         ensures committed { Honestly (Self.state self.new).disk (OnOk result (KeepsOrCommits (Self.state self.old) (Self.state self.new))) }
         ensures ready { OnOk result (Self.state self.new).is_ready }
         ensures undone { OnErr result (Undoes (Self.state self.old) (Self.state self.new)) }

@@ -1,3 +1,5 @@
+//! Why a call of a store failed.
+
 use disk_io::DiskError;
 use std::alloc::{AllocError, AllocFailed};
 use thiserror::Error;

@@ -4,7 +4,7 @@ use Rattle.std.proofs.lemmas.{Bool.ne_eqb, List.{get_or_default, map-append, tak
 use Rattle.{std.specs.List.AllByRecursion, cmd_status.specs.{Devices.Output, declared.{fault.Fault.Fault, status.Status.{Status, TheVariants.Good}}}}
 use Rattle.{cmd_status.{specs.Inputs.{AreLinkFiles, IsNodelistGiven}, proofs.Lines.alone}, echo_links.specs.Links.LinkFile}
 use Rattle.{echo_nodelist.specs.declared.line.Line.Line, model_run.specs.{Tidy.Tidy, AnyState.NewMessagesAreInOrder}}
-use Rattle.{echo_net.specs.{declared.verdict.Verdict.{Verdict, TheVariants.{Yes, No}}, Faults.{IsCarried, IsYes}}, cmd_print.specs.Pushed.Pushes}
+use Rattle.{echo_verdict.specs.{declared.verdict.Verdict.{Verdict, TheVariants.{Yes, No}}, Faults.{IsCarried, IsYes}}, cmd_print.specs.Pushed.Pushes}
 use Rattle.cmd_check.specs.CheckingAll.{AreAreasChecked, AreEachChecked, CheckAllAnswers, IsAllChecked, IsAreaChecked, no_count, verdicts_status}
 use Rattle.cmd_check.{specs.{AreaTags.AreAllTags, Checking.IsCheckVerdict, Further.{IsVerdictShown, areas_line}}, proofs.Checks.one_reading}
 

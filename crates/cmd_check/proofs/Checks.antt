@@ -2,7 +2,7 @@
 use Rattle.{std.proofs.Common.{◌≡◌, ℕ, Bool, List, [], ◌∷◌, Option, Result, Ok, refl, sym, ap, subst, ◌∙◌, arith}, cmd_status.specs.Devices.Output}
 use Rattle.cmd_status.specs.{declared.{fault.Fault.Fault, status.Status.{Status, TheVariants.Good}}, Inputs.{AreLinkFiles, IsNodelistGiven}}
 use Rattle.{cmd_status.proofs.Lines.alone, echo_links.specs.Links.{LinkFile, upper}, echo_nodelist.specs.declared.line.Line.Line, model_run.specs.Tidy.Tidy}
-use Rattle.{model_run.specs.AnyState.NewMessagesAreInOrder, echo_net.specs.{declared.verdict.Verdict.{Verdict, TheVariants.{Yes, No}}, Faults.IsYes}}
+use Rattle.{model_run.specs.AnyState.NewMessagesAreInOrder, echo_verdict.specs.{declared.verdict.Verdict.{Verdict, TheVariants.{Yes, No}}, Faults.IsYes}}
 use Rattle.{cmd_check.specs.{Checking.{CheckAnswers, IsChecked, IsCheckVerdict, verdict_status}, Further.IsVerdictShown}, cmd_print.specs.Pushed.Pushes}
 
 -- a yes has the status 0, and only a yes

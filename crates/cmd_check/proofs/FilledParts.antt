@@ -1,7 +1,7 @@
 -- The lines of a drawing with its parts.
 use Rattle.std.proofs.Common.{◌≡◌, Bool, true, false, subst, ℕ, ◌+◌, ◌-◌, ◌%◌, ◌<◌, List, [], ◌∷◌, ◌++◌, codes, length, length-append, take, get_or, refl, sym, ap, ◌∙◌, arith, append_assoc, append-nil}
 use Rattle.{std.{proofs.lemmas.List.{length-take-le, take_more}, specs.List.flat_map}, echo_addr.specs.declared.address.Address.Address}
-use Rattle.{echo_links.specs.Links.LinkFile, echo_net.specs.{declared.{drawing.Drawing.Drawing, verdict.Verdict.Verdict}, Drawn.IsDrawing}}
+use Rattle.{echo_links.specs.Links.LinkFile, echo_verdict.specs.{declared.{drawing.Drawing.Drawing, verdict.Verdict.Verdict}, Drawn.IsDrawing}}
 use Rattle.{cmd_suppose.specs.Parts.AreCutOff, cmd_status.{specs.declared.status.Status.{Status, TheVariants.Good}, proofs.Lines.alone}}
 use Rattle.cmd_print.specs.{Pushed.Pushes, Pictured.{head_lines, link_line, picture_lines, system_line}}
 use Rattle.cmd_check.specs.{Checking.{IsCheckVerdict, verdict_status}, JudgedAreas.alone_line}

@@ -1,6 +1,6 @@
 -- The answer of `picture`, from those of its parts.
-use Rattle.{std.proofs.Common.{◌≡◌, ℕ, List, [], arith}, echo_links.specs.Links.{LinkFile, upper}, echo_net.specs.declared.drawing.Drawing.Drawing}
-use Rattle.{echo_net.specs.{declared.verdict.Verdict.Verdict, Drawn.IsDrawing}, cmd_status.specs.{declared.status.Status.Status, Inputs.AreLinkFiles}}
+use Rattle.{std.proofs.Common.{◌≡◌, ℕ, List, [], arith}, echo_links.specs.Links.{LinkFile, upper}, echo_verdict.specs.declared.drawing.Drawing.Drawing}
+use Rattle.{echo_verdict.specs.{declared.verdict.Verdict.Verdict, Drawn.IsDrawing}, cmd_status.specs.{declared.status.Status.Status, Inputs.AreLinkFiles}}
 use Rattle.cmd_check.{specs.{Checking.{IsCheckVerdict, verdict_status}, Picturing.IsPictured}, proofs.Checks.{good_is_yes, of_same, yes_is_good}}
 use Rattle.cmd_print.specs.Pictured.{picture_lines}
 

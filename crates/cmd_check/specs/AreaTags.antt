@@ -1,7 +1,7 @@
 -- The tags of the areas that the link files of a net have.
 use Rattle.std.specs.{Prelude.{ℕ, ◌↔◌, Bool, Contains, List}, declared.cmp.Ordering.Ordering, Ordering.{is_eq, nat_cmp}, Cmp.Lexicographic.slice_cmp}
 use Rattle.std.specs.List.{list_any, Sorted.IsStrictlySortedBy}
-use Rattle.{echo_links.specs.Links.LinkFile, echo_net.specs.Faults.IsCarried}
+use Rattle.{echo_links.specs.Links.LinkFile, echo_verdict.specs.Faults.IsCarried}
 
 -- The order of tags: by the first byte that differs. A tag's beginning precedes the tag.
 abbrev pub tag_order : List ℕ → List ℕ → Ordering

@@ -4,8 +4,8 @@ use Rattle.cmd_status.specs.{Devices.Output, declared.fault.Fault.Fault}
 use Rattle.cmd_status.specs.{declared.status.Status.{Status, TheVariants.{Good, Differs}}, Ended.Answers}
 use Rattle.{cmd_status.specs.Inputs.{AreLinkFiles, IsFirstFaultGiven, IsNodelistGiven}, echo_links.specs.Links.{LinkFile, upper}}
 use Rattle.{echo_nodelist.specs.declared.line.Line.Line, model_run.specs.{AnyState.NewMessagesAreInOrder, Tidy.Tidy}}
-use Rattle.echo_net.specs.{declared.verdict.Verdict.{Verdict, TheVariants.{Yes, No}}, Faults.{IfNo, IfYes, IsFirstFault, IsYes}}
-use Rattle.{echo_net.specs.Nets.{carrier_count, linked_pairs}, cmd_check.specs.Further.IsVerdictShown}
+use Rattle.echo_verdict.specs.{declared.verdict.Verdict.{Verdict, TheVariants.{Yes, No}}, Faults.{IfNo, IfYes, IsFirstFault, IsYes}}
+use Rattle.{echo_verdict.specs.Nets.{carrier_count, linked_pairs}, cmd_check.specs.Further.IsVerdictShown}
 
 -- 1 for a no.
 abbrev pub verdict_status : Verdict → Status

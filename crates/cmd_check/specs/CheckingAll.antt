@@ -4,7 +4,7 @@ use Rattle.cmd_status.specs.Devices.{Output}
 use Rattle.cmd_status.specs.{declared.{fault.Fault.Fault, status.Status.{Status, TheVariants.{Good, Differs}}}, Ended.Answers}
 use Rattle.{cmd_status.specs.Inputs.{AreLinkFiles, IsFirstFaultGiven, IsNodelistGiven}, echo_links.specs.Links.LinkFile}
 use Rattle.{echo_nodelist.specs.declared.line.Line.Line, model_run.specs.{Tidy.Tidy, AnyState.NewMessagesAreInOrder}}
-use Rattle.{echo_net.specs.{declared.verdict.Verdict.{Verdict, TheVariants.{Yes, No}}, Faults.IsCarried}, cmd_check.specs.AreaTags.AreAllTags}
+use Rattle.{echo_verdict.specs.{declared.verdict.Verdict.{Verdict, TheVariants.{Yes, No}}, Faults.IsCarried}, cmd_check.specs.AreaTags.AreAllTags}
 use Rattle.cmd_check.specs.{Checking.IsCheckVerdict, Further.{IsVerdictShown, areas_line}}
 
 -- 1 for a no, 0 for a yes.

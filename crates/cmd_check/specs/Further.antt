@@ -1,8 +1,8 @@
 -- The lines of `check` for the verdict on an area, and with `--more` for the faults that the verdict does not name.
 use Rattle.std.specs.{Prelude.{◌≡◌, ℕ, ◌-◌, Bool, true, false, List, [], ◌++◌, codes, decimal, Option}, List.flat_map}
 use Rattle.echo_links.specs.Links.{LinkFile}
-use Rattle.{echo_nodelist.specs.declared.line.Line.Line, echo_net.specs.{declared.verdict.{NetFault.NetFault, Verdict.Verdict}, AllFaults.AreFurther}}
-use Rattle.{echo_net.specs.Printed.fault_text, cmd_print.specs.Checked.{AbsencesShown, CheckShown, verdict_line}}
+use Rattle.{echo_nodelist.specs.declared.line.Line.Line, echo_verdict.specs.{declared.verdict.{NetFault.NetFault, Verdict.Verdict}, AllFaults.AreFurther}}
+use Rattle.{echo_verdict.specs.Printed.fault_text, cmd_print.specs.Checked.{AbsencesShown, CheckShown, verdict_line}}
 
 -- The line of a further fault.
 abbrev pub also_line : NetFault → List ℕ

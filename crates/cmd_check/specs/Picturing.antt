@@ -2,8 +2,8 @@
 use Rattle.std.specs.Prelude.{◌≡◌, ℕ, ◌↔◌, List, [], Option, None, Result}
 use Rattle.cmd_status.specs.{Devices.Output, declared.fault.Fault.Fault}
 use Rattle.cmd_status.specs.{declared.status.Status.{Status, TheVariants.Good}, Ended.Answers, Inputs.{AreLinkFiles, IsFirstFaultGiven}}
-use Rattle.{echo_links.specs.Links.{LinkFile, upper}, model_run.specs.Tidy.Tidy, echo_net.specs.declared.drawing.{Crossing.Crossing, Drawing.Drawing}}
-use Rattle.{echo_net.specs.{declared.verdict.Verdict.Verdict, Drawn.IsDrawing}, cmd_check.specs.Checking.{IsCheckVerdict, verdict_status}}
+use Rattle.{echo_links.specs.Links.{LinkFile, upper}, model_run.specs.Tidy.Tidy, echo_verdict.specs.declared.drawing.{Crossing.Crossing, Drawing.Drawing}}
+use Rattle.{echo_verdict.specs.{declared.verdict.Verdict.Verdict, Drawn.IsDrawing}, cmd_check.specs.Checking.{IsCheckVerdict, verdict_status}}
 use Rattle.cmd_print.specs.Pictured.{picture_lines}
 
 -- The link files have no fault. These lines draw the area of the tag in upper case, with the parts of the verdict

@@ -1,7 +1,7 @@
 -- The answer of `picture --without`.
 use Rattle.std.specs.{Prelude.{◌≡◌, ◌↔◌, ◌⊎◌, ℕ, ◌+◌, ◌%◌, Bool, true, false, List, [], ◌∷◌, ◌++◌, codes, decimal, Result}, List.flat_map}
 use Rattle.{echo_addr.specs.{declared.address.Address.Address, Address.address_text}, echo_links.specs.Links.{LinkFile, upper}, model_run.specs.Tidy.Tidy}
-use Rattle.{echo_net.specs.{declared.{drawing.Drawing.Drawing, verdict.Verdict.Verdict}, Drawn.IsDrawing}, cmd_status.specs.Devices.Output}
+use Rattle.{echo_verdict.specs.{declared.{drawing.Drawing.Drawing, verdict.Verdict.Verdict}, Drawn.IsDrawing}, cmd_status.specs.Devices.Output}
 use Rattle.cmd_status.specs.{declared.{fault.Fault.Fault, status.Status.{Status, TheVariants.Good}}, Ended.Answers, Inputs.{AreLinkFiles, IsLinkFault}}
 use Rattle.{cmd_print.specs.Pictured.{head_lines, link_line, system_line}, cmd_check.specs.Checking.{IsCheckVerdict, verdict_status}}
 use Rattle.{cmd_check.specs.JudgedAreas.{alone_line, is_alone}, cmd_suppose.specs.{Leaving.texts_left, Parts.AreCutOff}}

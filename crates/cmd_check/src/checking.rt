@@ -2,7 +2,7 @@
 ghost use Rattle.std.specs.Prelude.{◌≡◌, ℕ, List, None, Ok, OnOk, Option, option_copied};
 ghost use Rattle.cmd_status.specs.Devices.{output_of};
 ghost use Rattle.{cmd_status.specs.{declared.status.Status.TheVariants.Good, Inputs.{AreLinkFiles, IsNodelistGiven}}, echo_links.specs.Links.{LinkFile, upper}};
-ghost use Rattle.{model_run.specs.{Tidy.Tidy, AnyState.NewMessagesAreInOrder}, echo_net.specs.Faults.{IfNo, IsFirstFault}};
+ghost use Rattle.{model_run.specs.{Tidy.Tidy, AnyState.NewMessagesAreInOrder}, echo_verdict.specs.Faults.{IfNo, IsFirstFault}};
 ghost use Rattle.{cmd_check.specs.{Checking.{CheckAnswers, verdict_status}, Further.IsVerdictShown}, cmd_print.specs.Pushed.Pushes};
 
 use crate::further_text::push_further;
@@ -11,8 +11,8 @@ use cmd_status::{Fault, Status, link_files, nodelist_given, print_rest};
 use disk_io::Sink;
 use echo_addr::Items;
 use echo_links::LinkFile;
-use echo_net::Verdict;
 use echo_nodelist::Nodelist;
+use echo_verdict::Verdict;
 use std::alloc::{AllocError, Global};
 
 /// What `check` prints in addition to its verdicts.
@@ -75,7 +75,7 @@ fn check_read<'a, W: Sink>(
         → AreLinkFiles inputs links.now → tag.now ≡ upper given
         → CheckAnswers nodelist more given inputs None (output_of W.contents W.failures W.holds out.old) (output_of W.contents W.failures W.holds out.new) result }
 {
-    let verdict = echo_net::check(alloc, links, tag)?;
+    let verdict = echo_verdict::check(alloc, links, tag)?;
     let mut lines = Vec::new(alloc);
     push_check(alloc, &mut lines, list, more, links, tag, &verdict)?;
     print_rest(&mut lines, out)?;

@@ -2,7 +2,7 @@
 ghost use Rattle.std.specs.Prelude.{◌≡◌, ◌≤◌, List, Ok, IfOk, None, Option, ℕ, length, map, option_copied};
 ghost use Rattle.cmd_status.specs.Devices.{output_of};
 ghost use Rattle.{cmd_status.specs.{declared.status.Status.TheVariants.Good, Inputs.{AreLinkFiles, IsNodelistGiven}}, echo_links.specs.Links.LinkFile};
-ghost use Rattle.{model_run.specs.{Tidy.Tidy, AnyState.NewMessagesAreInOrder}, echo_net.specs.Faults.{IsCarried, IsSharedSystem}, cmd_print.specs.Pushed.Pushes};
+ghost use Rattle.{model_run.specs.{Tidy.Tidy, AnyState.NewMessagesAreInOrder}, echo_verdict.specs.Faults.{IsCarried, IsSharedSystem}, cmd_print.specs.Pushed.Pushes};
 ghost use Rattle.cmd_check.specs.CheckingAll.{AreAreasChecked, CheckAllAnswers, IsAreaChecked, no_count, verdicts_status};
 
 use crate::area_tags::area_tags;
@@ -12,8 +12,8 @@ use cmd_status::{Fault, Status, link_files, nodelist_given, print_rest};
 use disk_io::Sink;
 use echo_addr::{Address, Items};
 use echo_links::LinkFile;
-use echo_net::Verdict;
 use echo_nodelist::Nodelist;
+use echo_verdict::Verdict;
 use std::alloc::{AllocError, Global};
 
 /// `check --all [--nodelist LIST] [--more] LINKS...`: prints for each area that a file has what `check` prints,
@@ -82,7 +82,7 @@ fn push_areas(
     ensures lines { IfOk result (λ noes. Pushes (AreAreasChecked links.now (option_copied list.entry) more (map (λ tag. tag.items) tags.now) noes) lines.old.items lines.new.items) }
     ensures within { IfOk result (λ noes. noes ≤ length tags.now) }
 {
-    let shared = echo_net::shared_system(alloc, links)?;
+    let shared = echo_verdict::shared_system(alloc, links)?;
     let mut noes = 0;
     'tags: for tag in tags {
         let one = push_area(alloc, lines, list, more, links, shared, tag)?;
@@ -105,7 +105,7 @@ fn push_area(
     ensures lines { IfOk result (λ noes. Pushes (IsAreaChecked links.now (option_copied list.entry) more tag.now noes) lines.old.items lines.new.items) }
     ensures small { IfOk result (λ noes. noes ≤ 1) }
 {
-    let verdict = echo_net::check_area(alloc, links, shared, tag)?;
+    let verdict = echo_verdict::check_area(alloc, links, shared, tag)?;
     push_check(alloc, lines, list, more, links, tag, &verdict)?;
     Ok(no_count(&verdict))
 }

@@ -1,11 +1,11 @@
 //! The lines of `check --more`: the faults that a verdict does not name, and how many areas have a yes.
 ghost use Rattle.std.specs.{Prelude.{◌≡◌, ◌≤◌, ◌++◌, OnOk}, List.flat_map};
-ghost use Rattle.{echo_net.specs.Faults.{IfNo, IsFirstFault}, cmd_print.specs.Pushed.Pushes};
+ghost use Rattle.{echo_verdict.specs.Faults.{IfNo, IsFirstFault}, cmd_print.specs.Pushed.Pushes};
 ghost use Rattle.cmd_check.specs.Further.{FurtherShown, also_line, areas_line};
 
 use echo_charset::written;
 use echo_links::LinkFile;
-use echo_net::{NetFault, Verdict, all_faults, further};
+use echo_verdict::{NetFault, Verdict, all_faults, further};
 use std::alloc::{AllocError, Global};
 use std::io::Write;
 

@@ -9,7 +9,7 @@ use cmd_status::{Fault, Status, link_files, print_rest};
 use disk_io::Sink;
 use echo_addr::Items;
 use echo_links::LinkFile;
-use echo_net::{Crossing, Drawing, Verdict};
+use echo_verdict::{Crossing, Drawing, Verdict};
 use std::alloc::Global;
 
 /// `picture TAG LINKS...`: prints the systems and links of the area of the tag, its letters made upper case, as a
@@ -43,8 +43,8 @@ fn picture_read<'a, W: Sink>(
     ensures { (given : List ℕ) → (inputs : List (List ℕ)) → AreLinkFiles inputs links.now → tag.now ≡ upper given
         → PictureAnswers given inputs None (output_of W.contents W.failures W.holds out.old) (output_of W.contents W.failures W.holds out.new) result }
 {
-    let verdict = echo_net::check(alloc, links, tag)?;
-    let drawing = echo_net::draw(alloc, links, tag, &verdict)?;
+    let verdict = echo_verdict::check(alloc, links, tag)?;
+    let drawing = echo_verdict::draw(alloc, links, tag, &verdict)?;
     print_picture(alloc, tag, &verdict, &drawing, &[], out)
 }
 

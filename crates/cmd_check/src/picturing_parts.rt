@@ -12,7 +12,7 @@ use disk_io::Sink;
 use echo_addr::{Address, Items};
 use echo_charset::written;
 use echo_links::LinkFile;
-use echo_net::{Drawing, Verdict};
+use echo_verdict::{Drawing, Verdict};
 use std::alloc::{AllocError, Global};
 use std::io::Write;
 
@@ -78,8 +78,8 @@ fn push_parts_picture(
 ) -> Result<Status, AllocError>
     ensures { IfOk result (λ status. Pushes (λ all. IsPartsDrawn left.now tag.now all status) lines.old.items lines.new.items) }
 {
-    let verdict = echo_net::check(alloc, left, tag)?;
-    let drawing = echo_net::draw(alloc, left, tag, &verdict)?;
+    let verdict = echo_verdict::check(alloc, left, tag)?;
+    let drawing = echo_verdict::draw(alloc, left, tag, &verdict)?;
     let cut = cut_parts(alloc, left, tag)?;
     let front = picture_front(alloc, tag, &verdict, &drawing)?;
     lines.extend_from_slice(&front)?;

@@ -170,7 +170,7 @@ fn push_verdict_left(
     ensures small { IfOk result (λ noes. noes ≤ 1) }
 {
     let Judging { list, more, .. } = judging;
-    let verdict = echo_net::check(alloc, left, tag)?;
+    let verdict = echo_verdict::check(alloc, left, tag)?;
     push_check(alloc, lines, list, more, left, tag, &verdict)?;
     Ok(no_count(&verdict))
 }

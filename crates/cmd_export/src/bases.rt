@@ -1,6 +1,7 @@
-use crate::files::open_reported;
+//! The commands `list` and `export`, on a base that they open.
+
 use base_folder::MessageSource;
-use cmd_base::open_base;
+use cmd_door::{UseMessages, with_base, with_reported};
 use cmd_input::Progress;
 use cmd_print::ListForm;
 use cmd_repair::list_ids;
@@ -29,8 +30,29 @@ pub(crate) fn run_list<'a, W: Sink>(
     let first = first_number(words.from)?;
     // `list_ids` judges each message before it prints, so that it is read once.
     let looked = if words.ids { u64::MAX } else { first };
-    let mut messages = open_reported(rt, words.base, looked, progress)?;
-    list_opened(rt, words, first, &mut messages, out)
+    let mut listing = Listing {
+        rt,
+        words,
+        first,
+        out,
+    };
+    with_reported(rt, words.base, looked, progress, &mut listing)
+}
+
+#[derive(Drop)]
+struct Listing<'q, 'a, W> {
+    rt: &'q HostRuntime,
+    words: &'q ListWords<'a>,
+    first: u64,
+    out: &'q mut W,
+}
+
+impl<'a, W: Sink> UseMessages<'a> for Listing<'_, 'a, W> {
+    type Answer = Status;
+
+    fn run<M: MessageSource>(&mut self, messages: &mut M) -> Result<Status, Fault<'a>> {
+        list_opened(self.rt, self.words, self.first, messages, self.out)
+    }
 }
 
 fn list_opened<'a, M: MessageSource, W: Sink>(
@@ -74,8 +96,38 @@ fn export_given<'a, W: Sink>(
         first: first_number(words.from)?,
         purged: words.purged,
     };
-    let mut messages = open_base(rt, words.base, asked.first)?;
-    export(rt.alloc(), &asked, words.base, &mut messages, out)
+    export_asked(rt, words.base, &asked, out)
+}
+
+fn export_asked<'a, W: Sink>(
+    rt: &HostRuntime,
+    base: &'a str,
+    asked: &ExportQuery<'_>,
+    out: &mut W,
+) -> Result<u128, Fault<'a>> {
+    let mut exporting = Exporting {
+        rt,
+        base,
+        asked,
+        out,
+    };
+    with_base(rt, base, asked.first, &mut exporting)
+}
+
+#[derive(Drop)]
+struct Exporting<'q, 'a, W> {
+    rt: &'q HostRuntime,
+    base: &'a str,
+    asked: &'q ExportQuery<'q>,
+    out: &'q mut W,
+}
+
+impl<'a, W: Sink> UseMessages<'a> for Exporting<'_, 'a, W> {
+    type Answer = u128;
+
+    fn run<M: MessageSource>(&mut self, messages: &mut M) -> Result<u128, Fault<'a>> {
+        export(self.rt.alloc(), self.asked, self.base, messages, self.out)
+    }
 }
 
 /// `export`, and on standard error how many characters were lost.

@@ -1,3 +1,5 @@
+//! Runs the commands that read a base.
+
 use crate::bases::{run_export, run_list};
 use crate::converting::run_convert;
 use crate::resending::run_resend;

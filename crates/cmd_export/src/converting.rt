@@ -1,12 +1,12 @@
 //! `convert` makes a base file or a base folder with the messages of another base.
 ghost use Rattle.base_folder.specs.Source.{LooksAt};
 
-use base_folder::{Distinct, FillError, MessageSource, SendError, fill, send_file};
+use base_folder::{FillError, MessageSource, SendError, fill, send_file};
 use base_store::SipDigest;
 use cmd_base::{
-    BASE_START, drawn_key, flush_name, hash_state, is_folder, is_strange, is_unused, load_file,
-    messages_fault, open_folder,
+    BASE_START, drawn_key, flush_name, is_folder, is_strange, is_unused, messages_fault,
 };
+use cmd_door::{UseMessages, with_distinct, with_file};
 use cmd_input::{folder_path, locked_folder, output_fault};
 use cmd_status::{Fault, Status, print_rest};
 use disk_io::{Sink, Watched};
@@ -26,15 +26,80 @@ pub(crate) fn run_convert<'a, W: Sink>(
     to: &'a str,
     out: &mut W,
 ) -> Result<Status, Fault<'a>> {
-    if !is_folder(rt, from) {
-        let mut messages = load_file(rt, from)?;
-        return convert_messages(rt, from, &mut messages, to, out);
+    if is_folder(rt, from) {
+        convert_folder(rt, from, to, out)
+    } else {
+        convert_file(rt, from, to, out)
     }
-    let hasher = hash_state(rt)?;
-    let messages = open_folder(rt, from, 0, None)?;
-    let mut messages = Distinct::new(rt.alloc(), messages, hasher);
-    judge_for(rt, from, &mut messages, to)?;
-    convert_messages(rt, from, &mut messages, to, out)
+}
+
+fn convert_file<'a, W: Sink>(
+    rt: &HostRuntime,
+    from: &'a str,
+    to: &'a str,
+    out: &mut W,
+) -> Result<Status, Fault<'a>> {
+    let mut converting = Converting {
+        rt,
+        from,
+        to,
+        judges: false,
+        out,
+    };
+    with_file(rt, from, &mut converting)
+}
+
+#[derive(Drop)]
+struct Converting<'q, 'a, W> {
+    rt: &'q HostRuntime,
+    from: &'a str,
+    to: &'a str,
+    // Whether the messages are read to their end before a folder is filled.
+    judges: bool,
+    out: &'q mut W,
+}
+
+impl<'a, W: Sink> UseMessages<'a> for Converting<'_, 'a, W> {
+    type Answer = Status;
+
+    fn run<M: MessageSource>(&mut self, messages: &mut M) -> Result<Status, Fault<'a>> {
+        if self.judges {
+            convert_distinct(self.rt, self.from, messages, self.to, self.out)
+        } else {
+            convert_messages(self.rt, self.from, messages, self.to, self.out)
+        }
+    }
+}
+
+fn convert_folder<'a, W: Sink>(
+    rt: &HostRuntime,
+    from: &'a str,
+    to: &'a str,
+    out: &mut W,
+) -> Result<Status, Fault<'a>> {
+    let mut converting = Converting {
+        rt,
+        from,
+        to,
+        judges: true,
+        out,
+    };
+    with_distinct(rt, from, &mut converting)
+}
+
+fn convert_distinct<'a, M: MessageSource, W: Sink>(
+    rt: &HostRuntime,
+    from: &'a str,
+    messages: &mut M,
+    to: &'a str,
+    out: &mut W,
+) -> Result<Status, Fault<'a>>
+    requires { (M.state messages.old).is_ready }
+{
+    match judge_for(rt, from, messages, to) {
+        Ok(()) => convert_messages(rt, from, messages, to, out),
+        Err(fault) => Err(fault),
+    }
 }
 
 fn convert_messages<'a, M: MessageSource, W: Sink>(
@@ -46,12 +111,15 @@ fn convert_messages<'a, M: MessageSource, W: Sink>(
 ) -> Result<Status, Fault<'a>>
     requires { (M.state messages.old).is_ready }
 {
-    if is_folder(rt, to) {
-        fill_empty(rt, from, messages, to)?;
+    let made = if is_folder(rt, to) {
+        fill_empty(rt, from, messages, to)
     } else {
-        save_file(rt, from, messages, to)?;
+        save_file(rt, from, messages, to)
+    };
+    match made {
+        Ok(()) => print_converted(rt, messages.count(), messages.cursor(), out),
+        Err(fault) => Err(fault),
     }
-    print_converted(rt, messages.count(), messages.cursor(), out)
 }
 
 fn judge_for<'a, M: MessageSource>(
@@ -91,9 +159,13 @@ fn print_converted<'a, W: Sink>(
     out: &mut W,
 ) -> Result<Status, Fault<'a>> {
     let waiting = count.saturating_sub(cursor);
-    let line = format!(in rt.alloc(); "converted {count} messages, {waiting} waiting\n")?;
-    print_rest(&mut line.into_bytes(), out)?;
-    Ok(Status::Good)
+    match format!(in rt.alloc(); "converted {count} messages, {waiting} waiting\n") {
+        Ok(line) => match print_rest(&mut line.into_bytes(), out) {
+            Ok(()) => Ok(Status::Good),
+            Err(fault) => Err(fault),
+        },
+        Err(_) => Err(Fault::OutOfMemory),
+    }
 }
 
 // Fills an empty folder under its lock, so that no other run fills or changes it.
@@ -105,10 +177,14 @@ fn fill_empty<'a, M: MessageSource>(
 ) -> Result<(), Fault<'a>>
     requires { (M.state messages.old).is_ready }
 {
-    let locked = locked_folder(rt, to)?;
-    let filled = fill_if_empty(rt, from, messages, to);
-    let _ = locked.unlock();
-    filled
+    match locked_folder(rt, to) {
+        Ok(locked) => {
+            let filled = fill_if_empty(rt, from, messages, to);
+            let _ = locked.unlock();
+            filled
+        }
+        Err(fault) => Err(fault),
+    }
 }
 
 fn fill_if_empty<'a, M: MessageSource>(
@@ -123,28 +199,38 @@ fn fill_if_empty<'a, M: MessageSource>(
         return Err(Fault::CannotUse(to));
     }
     flush_name(rt, to, 0)?;
-    match fill_folder(rt, messages, to)? {
-        Ok(()) => Ok(()),
-        Err(FillError::Messages(fault)) => Err(messages_fault(fault, from)),
-        Err(FillError::Used) => Err(Fault::CannotUse(to)),
-        Err(FillError::Folder(why)) => Err(why.fault(to)),
+    let strange = is_strange(rt, to)?;
+    match folder_path(rt, to) {
+        Ok(path) => fill_folder(rt, from, messages, to, path.as_bytes(), strange),
+        Err(_) => Err(Fault::OutOfMemory),
     }
 }
 
-// Fills the empty base folder with this path. The inner error is one of the messages or of the folder's files.
+// Fills the empty base folder with this path.
 fn fill_folder<'a, M: MessageSource>(
     rt: &HostRuntime,
+    from: &'a str,
     messages: &mut M,
     to: &'a str,
-) -> Result<Result<(), FillError>, Fault<'a>>
+    path: &[u8],
+    strange: bool,
+) -> Result<(), Fault<'a>>
     requires { (M.state messages.old).is_ready }
 {
-    let strange = is_strange(rt, to)?;
-    let path = folder_path(rt, to)?;
-    let path = path.as_str().as_bytes();
     let key = drawn_key(rt)?;
     let mut disk = RealDisk::new(rt, Unknown);
-    Ok(fill::<_, SipDigest, _>(rt.alloc(), &mut disk, path, strange, key, messages))
+    match fill::<_, SipDigest, _>(rt.alloc(), &mut disk, path, strange, key, messages) {
+        Ok(()) => Ok(()),
+        Err(why) => Err(filling_fault(why, from, to)),
+    }
+}
+
+fn filling_fault<'a>(why: FillError, from: &'a str, to: &'a str) -> Fault<'a> {
+    match why {
+        FillError::Messages(fault) => messages_fault(fault, from),
+        FillError::Used => Fault::CannotUse(to),
+        FillError::Folder(why) => why.fault(to),
+    }
 }
 
 // Makes a base file at a path that nothing has. A fault of the messages counts before one of the file: if the file
@@ -157,11 +243,17 @@ fn save_file<'a, M: MessageSource>(
 ) -> Result<(), Fault<'a>>
     requires { (M.state messages.old).is_ready }
 {
-    let Err(failed) = write_file(rt, from, messages, to)? else {
-        return flush_folder(rt, parent_path(to)).map_err(|fault| output_fault(fault, to));
-    };
-    judge_messages(rt, from, messages)?;
-    Err(output_fault(failed, to))
+    match write_file(rt, from, messages, to) {
+        Ok(Ok(())) => match flush_folder(rt, parent_path(to)) {
+            Ok(()) => Ok(()),
+            Err(fault) => Err(output_fault(fault, to)),
+        },
+        Ok(Err(failed)) => match judge_messages(rt, from, messages) {
+            Ok(()) => Err(output_fault(failed, to)),
+            Err(fault) => Err(fault),
+        },
+        Err(fault) => Err(fault),
+    }
 }
 
 // Writes it, message by message. The inner error is one of the file.
@@ -174,17 +266,17 @@ fn write_file<'a, M: MessageSource>(
     requires { (M.state messages.old).is_ready }
     ensures { LooksAt (M.state messages.old) (M.state messages.new) }
 {
-    let mut staged = match begin_file(rt.alloc(), rt, to, OWN, BASE_START) {
-        Ok(staged) => staged,
-        Err(failed) => return Ok(Err(failed)),
-    };
-    let sent = send_file(rt.alloc(), messages, &mut staged.device);
-    if sent.is_ok() {
-        return Ok(name_file(rt, staged, to));
-    }
-    drop_file(rt, staged);
-    match sent {
-        Err(SendError::Messages(fault)) => Err(messages_fault(fault, from)),
-        _ => Ok(Err(OutputFault::Device)),
+    match begin_file(rt.alloc(), rt, to, OWN, BASE_START) {
+        Ok(mut staged) => match send_file(rt.alloc(), messages, &mut staged.device) {
+            Ok(()) => Ok(name_file(rt, staged, to)),
+            Err(why) => {
+                drop_file(rt, staged);
+                match why {
+                    SendError::Messages(fault) => Err(messages_fault(fault, from)),
+                    _ => Ok(Err(OutputFault::Device)),
+                }
+            }
+        },
+        Err(failed) => Ok(Err(failed)),
     }
 }

@@ -5,7 +5,8 @@ ghost use Rattle.std.specs.Prelude.{◌≡◌, None};
 use crate::files::file_path;
 use crate::resending::check_owner;
 use base_folder::MessageSource;
-use cmd_base::{is_folder, open_base};
+use cmd_base::is_folder;
+use cmd_door::{UseMessages, with_base};
 use cmd_input::{LinkLock, MAX_INPUT, output_fault, read_given, text_path};
 use cmd_repair::{KnownIds, SendFault, check_linked, push_nothing, read_ids, send_all};
 use cmd_status::{Fault, FileLock, Status, print_rest};
@@ -16,7 +17,7 @@ use disk_system::{
     OutputFault, RealDisk, StagedFile, Unknown, begin_file, drop_file, flush_folder, name_file,
 };
 use echo_links::LinkFile;
-use echo_toss::{CountedPacket, Resend};
+use echo_steps::{CountedPacket, Resend};
 use model_steps::is_stamp;
 use station::lock_and_read_links;
 use std::alloc::AllocError;
@@ -70,8 +71,10 @@ fn known_ids<'l, 'a>(
     area: &[u8],
     list: &'l [u8],
 ) -> Result<KnownIds<'l>, Fault<'a>> {
-    let area = area.to_ascii_uppercase(rt.alloc())?;
-    read_ids(rt.alloc(), &area, list)
+    match area.to_ascii_uppercase(rt.alloc()) {
+        Ok(area) => read_ids(rt.alloc(), &area, list),
+        Err(_) => Err(Fault::OutOfMemory),
+    }
 }
 
 fn send_repair<W: Sink, E: Sink>(
@@ -83,31 +86,108 @@ fn send_repair<W: Sink, E: Sink>(
 ) -> Status {
     let mut disk = RealDisk::new(rt, Unknown);
     let mut lock = LinkLock::ahead(rt, words.place.links);
-    let links = match links_judged(rt, &mut disk, &mut lock, words, repair.asked) {
-        Ok(links) => links,
-        Err(fault) => return fault.report(errors),
-    };
-    match open_base(rt, words.place.base, judged_from(repair.asked)) {
-        Ok(mut messages) => send_messages(rt, words, repair, &links, &mut messages, out, errors),
+    send_locked(rt, &mut disk, &mut lock, words, repair, out, errors)
+}
+
+// The same under the lock of the link file.
+fn send_locked<D: Disk, L: FileLock, W: Sink, E: Sink>(
+    rt: &HostRuntime,
+    disk: &mut D,
+    lock: &mut L,
+    words: &ResendWords<'_>,
+    repair: Repair<'_, '_>,
+    out: &mut W,
+    errors: &mut E,
+) -> Status
+    requires { L.held lock.old ≡ None }
+{
+    match lock_and_read_links(rt.alloc(), disk, lock, words.place.links) {
+        Ok(links) => send_judged(rt, disk, words, repair, &links, out, errors),
         Err(fault) => fault.report(errors),
     }
 }
 
-// The link file, under its lock. The address has to be a link of the area, and a base folder that of this system.
-fn links_judged<'a, D: Disk, L: FileLock>(
+fn send_judged<D: Disk, W: Sink, E: Sink>(
     rt: &HostRuntime,
     disk: &mut D,
-    lock: &mut L,
-    words: &ResendWords<'a>,
+    words: &ResendWords<'_>,
+    repair: Repair<'_, '_>,
+    links: &LinkFile,
+    out: &mut W,
+    errors: &mut E,
+) -> Status {
+    match judge_links(rt, disk, words.place.base, links, repair.asked) {
+        Ok(()) => send_opened(rt, words, repair, links, out, errors),
+        Err(fault) => fault.report(errors),
+    }
+}
+
+fn send_opened<'q, W: Sink, E: Sink>(
+    rt: &'q HostRuntime,
+    words: &'q ResendWords<'q>,
+    repair: Repair<'q, 'q>,
+    links: &'q LinkFile,
+    out: &'q mut W,
+    errors: &'q mut E,
+) -> Status {
+    let mut sending = Sending {
+        rt,
+        words,
+        repair,
+        links,
+        out,
+        errors,
+    };
+    match with_base(
+        rt,
+        words.place.base,
+        judged_from(repair.asked),
+        &mut sending,
+    ) {
+        Ok(status) => status,
+        Err(fault) => fault.report(sending.errors),
+    }
+}
+
+#[derive(Drop)]
+struct Sending<'q, 'a, W, E> {
+    rt: &'q HostRuntime,
+    words: &'q ResendWords<'a>,
+    repair: Repair<'q, 'q>,
+    links: &'q LinkFile,
+    out: &'q mut W,
+    errors: &'q mut E,
+}
+
+impl<'a, W: Sink, E: Sink> UseMessages<'a> for Sending<'_, 'a, W, E> {
+    type Answer = Status;
+
+    fn run<M: MessageSource>(&mut self, messages: &mut M) -> Result<Status, Fault<'a>> {
+        Ok(send_messages(
+            self.rt,
+            self.words,
+            self.repair,
+            self.links,
+            messages,
+            self.out,
+            self.errors,
+        ))
+    }
+}
+
+/// A fault, unless the address is a link of the area, and a base folder that of this system.
+pub(crate) fn judge_links<'a, D: Disk>(
+    rt: &HostRuntime,
+    disk: &mut D,
+    base: &'a str,
+    links: &LinkFile,
     asked: Resend<'_>,
-) -> Result<LinkFile, Fault<'a>>
-    requires { L.held lock.old ≡ None }
-{
-    let links = lock_and_read_links(rt.alloc(), disk, lock, words.place.links)?;
-    let area = asked.area.to_ascii_uppercase(rt.alloc())?;
-    check_linked(&links, &area, asked.to)?;
-    check_owner(rt, disk, words.place.base, links.system())?;
-    Ok(links)
+) -> Result<(), Fault<'a>> {
+    match asked.area.to_ascii_uppercase(rt.alloc()) {
+        Ok(area) => check_linked(links, &area, asked.to)?,
+        Err(_) => return Err(Fault::OutOfMemory),
+    }
+    check_owner(rt, disk, base, links.system())
 }
 
 // The first message that is judged before the packet is begun. Each is judged as it is sent, so it is read once. Only a
@@ -179,12 +259,18 @@ fn print_counted<'a, W: Sink>(
     out: &mut W,
 ) -> Result<(), Fault<'a>> {
     let mut line = Vec::new(rt.alloc());
-    if counted.messages == 0 {
-        push_nothing(&mut line, counted.to)?;
-    } else {
-        push_counted(&mut line, &[counted])?;
+    match push_line(&mut line, counted) {
+        Ok(()) => print_rest(&mut line, out),
+        Err(_) => Err(Fault::OutOfMemory),
     }
-    print_rest(&mut line, out)
+}
+
+fn push_line(line: &mut Vec<u8>, counted: CountedPacket) -> Result<(), AllocError> {
+    if counted.messages == 0 {
+        push_nothing(line, counted.to)
+    } else {
+        push_counted(line, &[counted])
+    }
 }
 
 fn stage_packet<M: MessageSource, W: Sink, E: Sink>(
@@ -198,62 +284,106 @@ fn stage_packet<M: MessageSource, W: Sink, E: Sink>(
 ) -> Status
     requires { (M.state messages.old).is_ready }
 {
-    let Ok(path) = free_path(rt, words.folder, repair.asked) else {
-        return Fault::CannotUse(words.folder).report(errors);
-    };
-    let mut staged = match staged_at(rt, path.as_str(), links, repair.asked) {
-        Ok(staged) => staged,
-        Err(fault) => return output_fault(fault, words.folder).report(errors),
-    };
+    match free_path(rt, words.folder, repair.asked) {
+        Ok(path) => {
+            let to = Staging {
+                folder: words.folder,
+                base: words.place.base,
+                path: path.as_str(),
+            };
+            stage_at(rt, to, repair, links, messages, out, errors)
+        }
+        Err(_) => Fault::CannotUse(words.folder).report(errors),
+    }
+}
+
+// The folder of the packet and its path there, and the base that it is made from.
+#[derive(Clone, Copy)]
+struct Staging<'a> {
+    folder: &'a str,
+    base: &'a str,
+    path: &'a str,
+}
+
+fn stage_at<M: MessageSource, W: Sink, E: Sink>(
+    rt: &HostRuntime,
+    to: Staging<'_>,
+    repair: Repair<'_, '_>,
+    links: &LinkFile,
+    messages: &mut M,
+    out: &mut W,
+    errors: &mut E,
+) -> Status
+    requires { (M.state messages.old).is_ready }
+{
+    match staged_at(rt, to.path, links, repair.asked) {
+        Ok(mut staged) => {
+            let filled = fill_staged(rt, to, repair, links, messages, &mut staged.device, out);
+            end_staged(rt, to, staged, filled, errors)
+        }
+        Err(fault) => output_fault(fault, to.folder).report(errors),
+    }
+}
+
+// Sends the messages to the device and prints the line. Whether there are any.
+fn fill_staged<'a, M: MessageSource, D: Sink, W: Sink>(
+    rt: &HostRuntime,
+    to: Staging<'a>,
+    repair: Repair<'_, '_>,
+    links: &LinkFile,
+    messages: &mut M,
+    device: &mut D,
+    out: &mut W,
+) -> Result<bool, Fault<'a>>
+    requires { (M.state messages.old).is_ready }
+{
     match send_all(
         rt.alloc(),
         repair.asked,
         repair.held,
         links,
-        words.place.base,
+        to.base,
         messages,
-        &mut staged.device,
+        device,
     ) {
-        Ok(counted) => name_packet(
-            rt,
-            words.folder,
-            path.as_str(),
-            staged,
-            counted,
-            out,
-            errors,
-        ),
-        Err(why) => {
-            drop_file(rt, staged);
-            sending_fault(why, words.folder).report(errors)
-        }
+        Ok(counted) => match print_counted(rt, counted, out) {
+            Ok(()) => Ok(counted.messages > 0),
+            Err(fault) => Err(fault),
+        },
+        Err(why) => Err(sending_fault(why, to.folder)),
     }
 }
 
-// Prints the line and gives the packet its name. One without messages is dropped.
-fn name_packet<W: Sink, E: Sink>(
+// Gives the packet its name. One without messages, and one that was not filled, is dropped.
+fn end_staged<E: Sink>(
     rt: &HostRuntime,
-    folder: &str,
-    path: &str,
+    to: Staging<'_>,
     staged: StagedFile<File>,
-    counted: CountedPacket,
-    out: &mut W,
+    filled: Result<bool, Fault<'_>>,
     errors: &mut E,
 ) -> Status {
-    if let Err(fault) = print_counted(rt, counted, out) {
-        drop_file(rt, staged);
-        return fault.report(errors);
+    if matches!(filled, Ok(true)) {
+        return name_staged(rt, to, staged, errors);
     }
-    if counted.messages == 0 {
-        drop_file(rt, staged);
-        return Status::Good;
+    drop_file(rt, staged);
+    match filled {
+        Ok(_) => Status::Good,
+        Err(fault) => fault.report(errors),
     }
-    if let Err(fault) = name_file(rt, staged, path) {
-        return output_fault(fault, path).report(errors);
-    }
-    match flush_folder(rt, folder) {
-        Ok(()) => Status::Good,
-        Err(fault) => output_fault(fault, folder).report(errors),
+}
+
+fn name_staged<E: Sink>(
+    rt: &HostRuntime,
+    to: Staging<'_>,
+    staged: StagedFile<File>,
+    errors: &mut E,
+) -> Status {
+    match name_file(rt, staged, to.path) {
+        Ok(()) => match flush_folder(rt, to.folder) {
+            Ok(()) => Status::Good,
+            Err(fault) => output_fault(fault, to.folder).report(errors),
+        },
+        Err(fault) => output_fault(fault, to.path).report(errors),
     }
 }
 
@@ -266,21 +396,36 @@ fn staged_at(
 ) -> Result<StagedFile<File>, OutputFault> {
     let own = links.system();
     let (zone, net, node) = (own.zone, own.net, own.node);
-    let name = format!(in rt.alloc(); "{zone}.{net}.{node}")?;
     let [first, second] = node.to_le_bytes();
     let [third, fourth] = asked.to.node.to_le_bytes();
     let start = [first, second, third, fourth];
-    begin_file(rt.alloc(), rt, path, name.as_str(), &start)
+    match format!(in rt.alloc(); "{zone}.{net}.{node}") {
+        Ok(name) => begin_file(rt.alloc(), rt, path, name.as_str(), &start),
+        Err(_) => Err(OutputFault::Memory),
+    }
 }
 
 fn free_path(rt: &HostRuntime, folder: &str, asked: Resend<'_>) -> io::Result<String> {
     'numbers: for number in 1..u32::MAX {
-        let path = path_of(rt, folder, asked, number)?;
-        if is_free(rt, path.as_str())? {
+        if let Some(path) = path_if_free(rt, folder, asked, number)? {
             return Ok(path);
         }
     }
     Err(ErrorKind::AlreadyExists.into())
+}
+
+fn path_if_free(
+    rt: &HostRuntime,
+    folder: &str,
+    asked: Resend<'_>,
+    number: u32,
+) -> io::Result<Option<String>> {
+    let path = path_of(rt, folder, asked, number)?;
+    match is_free(rt, path.as_str()) {
+        Ok(true) => Ok(Some(path)),
+        Ok(false) => Ok(None),
+        Err(error) => Err(error),
+    }
 }
 
 // Whether nothing has the path, not even a symbolic link.
@@ -298,6 +443,8 @@ fn path_of(
     asked: Resend<'_>,
     number: u32,
 ) -> Result<String, AllocError> {
-    let name = repair_name(rt.alloc(), asked.to, asked.first, number)?;
-    file_path(rt, folder, text_path(&name))
+    match repair_name(rt.alloc(), asked.to, asked.first, number) {
+        Ok(name) => file_path(rt, folder, text_path(&name)),
+        Err(refused) => Err(refused),
+    }
 }

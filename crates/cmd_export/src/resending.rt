@@ -3,12 +3,12 @@ ghost use Rattle.std.specs.Prelude.{◌≡◌, None};
 
 use crate::bases::first_number;
 use crate::files::file_path;
-use crate::repairing::run_repair;
-use base_folder::{judge_owner, log_end};
-use cmd_base::{is_folder, is_strange, open_base};
+use crate::repairing::{judge_links, run_repair};
+use base_folder::{MessageSource, judge_owner, log_end};
+use cmd_base::{is_folder, is_strange};
+use cmd_door::{UseMessages, with_base};
 use cmd_input::{LinkLock, folder_path, named_stamp, output_fault, text_path};
 use cmd_numbered::resend;
-use cmd_repair::check_linked;
 use cmd_status::{Fault, FileLock, Status, parse_address, print_rest};
 use cmd_store::{push_packet, resent_name};
 use cmd_words::ResendWords;
@@ -17,7 +17,8 @@ use disk_system::{
     NewFile, OWNER_ALONE, OutputFault, RealDisk, Unknown, create_file, flush_folder,
 };
 use echo_addr::Address;
-use echo_toss::Resend;
+use echo_links::LinkFile;
+use echo_steps::Resend;
 use model_steps::Packet;
 use station::lock_and_read_links;
 use std::alloc::AllocError;
@@ -43,7 +44,22 @@ pub(crate) fn run_resend<W: Sink, E: Sink>(
     }
     let mut disk = RealDisk::new(rt, Unknown);
     let mut lock = LinkLock::ahead(rt, words.place.links);
-    match packet_of(rt, &mut disk, &mut lock, words, asked) {
+    resend_locked(rt, &mut disk, &mut lock, words, asked, out, errors)
+}
+
+// The same under the lock of the link file.
+fn resend_locked<D: Disk, L: FileLock, W: Sink, E: Sink>(
+    rt: &HostRuntime,
+    disk: &mut D,
+    lock: &mut L,
+    words: &ResendWords<'_>,
+    asked: Resend<'_>,
+    out: &mut W,
+    errors: &mut E,
+) -> Status
+    requires { L.held lock.old ≡ None }
+{
+    match packet_of(rt, disk, lock, words, asked) {
         Ok(packet) => send_packet(rt, words.folder, asked, &packet, out, errors),
         Err(fault) => fault.report(errors),
     }
@@ -71,12 +87,44 @@ fn packet_of<'a, D: Disk, L: FileLock>(
 ) -> Result<Packet, Fault<'a>>
     requires { L.held lock.old ≡ None }
 {
-    let links = lock_and_read_links(rt.alloc(), disk, lock, words.place.links)?;
-    let area = asked.area.to_ascii_uppercase(rt.alloc())?;
-    check_linked(&links, &area, asked.to)?;
-    check_owner(rt, disk, words.place.base, links.system())?;
-    let mut messages = open_base(rt, words.place.base, 0)?;
-    resend(rt.alloc(), asked, &links, words.place.base, &mut messages)
+    match lock_and_read_links(rt.alloc(), disk, lock, words.place.links) {
+        Ok(links) => {
+            judge_links(rt, disk, words.place.base, &links, asked)?;
+            resent(rt, words.place.base, asked, &links)
+        }
+        Err(fault) => Err(fault),
+    }
+}
+
+fn resent<'a>(
+    rt: &HostRuntime,
+    base: &'a str,
+    asked: Resend<'_>,
+    links: &LinkFile,
+) -> Result<Packet, Fault<'a>> {
+    let mut resending = Resending {
+        rt,
+        base,
+        asked,
+        links,
+    };
+    with_base(rt, base, 0, &mut resending)
+}
+
+#[derive(Clone, Copy)]
+struct Resending<'q, 'a> {
+    rt: &'q HostRuntime,
+    base: &'a str,
+    asked: Resend<'q>,
+    links: &'q LinkFile,
+}
+
+impl<'a> UseMessages<'a> for Resending<'_, 'a> {
+    type Answer = Packet;
+
+    fn run<M: MessageSource>(&mut self, messages: &mut M) -> Result<Packet, Fault<'a>> {
+        resend(self.rt.alloc(), self.asked, self.links, self.base, messages)
+    }
 }
 
 /// A fault, where the base is a folder of another system.
@@ -90,9 +138,25 @@ pub(crate) fn check_owner<'a, D: Disk>(
         return Ok(());
     }
     let strange = is_strange(rt, base)?;
-    let path = folder_path(rt, base)?;
-    match log_end(rt.alloc(), disk, path.as_bytes(), strange) {
-        Ok(end) => judge_owner(end.recorded.mark, own).map_err(|why| why.fault(base)),
+    match folder_path(rt, base) {
+        Ok(path) => judge_folder(rt, disk, base, path.as_bytes(), strange, own),
+        Err(_) => Err(Fault::OutOfMemory),
+    }
+}
+
+fn judge_folder<'a, D: Disk>(
+    rt: &HostRuntime,
+    disk: &mut D,
+    base: &'a str,
+    path: &[u8],
+    strange: bool,
+    own: Address,
+) -> Result<(), Fault<'a>> {
+    match log_end(rt.alloc(), disk, path, strange) {
+        Ok(end) => match judge_owner(end.recorded.mark, own) {
+            Ok(()) => Ok(()),
+            Err(why) => Err(why.fault(base)),
+        },
         Err(why) => Err(why.fault(base)),
     }
 }
@@ -120,8 +184,10 @@ fn print_packet<'a, W: Sink>(
     out: &mut W,
 ) -> Result<(), Fault<'a>> {
     let mut line = Vec::new(rt.alloc());
-    push_packet(&mut line, packet)?;
-    print_rest(&mut line, out)
+    match push_packet(&mut line, packet) {
+        Ok(()) => print_rest(&mut line, out),
+        Err(_) => Err(Fault::OutOfMemory),
+    }
 }
 
 // Writes a packet to its file, which must be new, and flushes the folder.
@@ -135,22 +201,33 @@ fn put_packet<E: Sink>(
     if !is_folder(rt, folder) {
         return Fault::CannotUse(folder).report(errors);
     }
-    let path = match path_of(rt, folder, asked) {
-        Ok(path) => path,
-        Err(_) => return Fault::OutOfMemory.report(errors),
-    };
-    if let Err(fault) = write_packet(rt, path.as_str(), packet) {
-        return output_fault(fault, path.as_str()).report(errors);
+    match path_of(rt, folder, asked) {
+        Ok(path) => put_at(rt, folder, path.as_str(), packet, errors),
+        Err(_) => Fault::OutOfMemory.report(errors),
     }
-    match flush_folder(rt, folder) {
-        Ok(()) => Status::Good,
-        Err(fault) => output_fault(fault, folder).report(errors),
+}
+
+fn put_at<E: Sink>(
+    rt: &HostRuntime,
+    folder: &str,
+    path: &str,
+    packet: &Packet,
+    errors: &mut E,
+) -> Status {
+    match write_packet(rt, path, packet) {
+        Ok(()) => match flush_folder(rt, folder) {
+            Ok(()) => Status::Good,
+            Err(fault) => output_fault(fault, folder).report(errors),
+        },
+        Err(fault) => output_fault(fault, path).report(errors),
     }
 }
 
 fn path_of(rt: &HostRuntime, folder: &str, asked: Resend<'_>) -> Result<String, AllocError> {
-    let name = resent_name(rt.alloc(), asked.to, asked.first)?;
-    file_path(rt, folder, text_path(&name))
+    match resent_name(rt.alloc(), asked.to, asked.first) {
+        Ok(name) => file_path(rt, folder, text_path(&name)),
+        Err(refused) => Err(refused),
+    }
 }
 
 // Writes it under the staging name of its system, and gives it its own.
@@ -158,14 +235,24 @@ fn write_packet(rt: &HostRuntime, path: &str, packet: &Packet) -> Result<(), Out
     let zone = packet.header.orig_zone;
     let net = packet.header.orig_net;
     let node = packet.header.orig_node;
-    let own = format!(in rt.alloc(); "{zone}.{net}.{node}")?;
-    let bytes = packet.encode(rt.alloc())?;
-    let new = NewFile {
-        path,
-        own: own.as_str(),
-        bytes: &bytes,
-        known_by: PACKET_KNOWN_BY,
-        mode: OWNER_ALONE,
-    };
-    create_file(rt.alloc(), rt, new)
+    match format!(in rt.alloc(); "{zone}.{net}.{node}") {
+        Ok(own) => write_as(rt, path, own.as_str(), packet),
+        Err(_) => Err(OutputFault::Memory),
+    }
+}
+
+fn write_as(rt: &HostRuntime, path: &str, own: &str, packet: &Packet) -> Result<(), OutputFault> {
+    match packet.encode(rt.alloc()) {
+        Ok(bytes) => {
+            let new = NewFile {
+                path,
+                own,
+                bytes: &bytes,
+                known_by: PACKET_KNOWN_BY,
+                mode: OWNER_ALONE,
+            };
+            create_file(rt.alloc(), rt, new)
+        }
+        Err(_) => Err(OutputFault::Memory),
+    }
 }

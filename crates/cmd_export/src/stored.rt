@@ -6,18 +6,19 @@ ghost use Rattle.std.specs.Prelude.{◌≢◌, IfErr};
 use crate::bases::first_number;
 use crate::files::file_path;
 use base_folder::MessageSource;
-use cmd_base::open_base;
-use cmd_input::{folder_fault, locked_folder, output_fault, read_file, text_path};
+use cmd_door::{UseMessages, with_base};
+use cmd_input::{locked_folder, output_fault, read_file, text_path};
 use cmd_numbered::{
     ExportError, Exported, LastFile, MessageFile, MessageFolder, export_files, is_left,
     stored_number, tell_exported,
 };
-use cmd_status::{Fault, Status, ended};
+use cmd_status::{Fault, Status};
 use cmd_words::ExportStoredWords;
 use disk_io::Sink;
 use disk_system::{
     BY_UMASK, NewFile, OutputFault, create_file, flush_folder, parent_path, remove_left,
 };
+use std::alloc::AllocError;
 use std::fs::File;
 use std::{fs, io};
 
@@ -95,35 +96,102 @@ pub(crate) fn run_export_stored<W: Sink, E: Sink>(
     out: &mut W,
     errors: &mut E,
 ) -> Status {
-    let (locked, exported) = match export_into(rt, words, errors) {
-        Ok(exported) => exported,
-        Err(fault) => return fault.report(errors),
-    };
-    let line = match tell_exported(rt.alloc(), &exported, out) {
-        Ok(()) => Ok(Status::Good),
-        Err(fault) => Err(fault),
-    };
-    let _ = locked.unlock();
-    match exported.stop {
-        None => ended(line, errors),
-        Some(ExportError::Message(fault)) => fault.report(errors),
-        Some(ExportError::File(status)) => status,
+    match first_number(words.from) {
+        Ok(first) => export_first(rt, words, first, out, errors),
+        Err(fault) => fault.report(errors),
     }
 }
 
-fn export_into<'a, E: Sink>(
+fn export_first<'q, W: Sink, E: Sink>(
+    rt: &'q HostRuntime,
+    words: &'q ExportStoredWords<'q>,
+    first: u64,
+    out: &'q mut W,
+    errors: &'q mut E,
+) -> Status {
+    let locked = locked_folder(rt, words.folder);
+    let mut storing = Storing {
+        rt,
+        words,
+        first,
+        locked: &locked,
+        out,
+        errors,
+    };
+    match with_base(rt, words.base, 0, &mut storing) {
+        Ok(status) => status,
+        Err(fault) => fault.report(storing.errors),
+    }
+}
+
+#[derive(Drop)]
+struct Storing<'q, 'a, W, E> {
+    rt: &'q HostRuntime,
+    words: &'q ExportStoredWords<'a>,
+    first: u64,
+    locked: &'q Result<File, Fault<'a>>,
+    out: &'q mut W,
+    errors: &'q mut E,
+}
+
+impl<'a, W: Sink, E: Sink> UseMessages<'a> for Storing<'_, 'a, W, E> {
+    type Answer = Status;
+
+    fn run<M: MessageSource>(&mut self, messages: &mut M) -> Result<Status, Fault<'a>> {
+        match self.locked {
+            Ok(locked) => {
+                let status = export_under(
+                    self.rt,
+                    self.words,
+                    self.first,
+                    messages,
+                    self.out,
+                    self.errors,
+                );
+                let _ = locked.unlock();
+                Ok(status)
+            }
+            Err(fault) => Err(*fault),
+        }
+    }
+}
+
+fn export_under<M: MessageSource, W: Sink, E: Sink>(
     rt: &HostRuntime,
-    words: &ExportStoredWords<'a>,
+    words: &ExportStoredWords<'_>,
+    first: u64,
+    messages: &mut M,
+    out: &mut W,
     errors: &mut E,
-) -> Result<(File, Exported<'a>), Fault<'a>> {
-    let first = first_number(words.from)?;
-    let folder = words.folder;
-    let locked = locked_folder(rt, folder);
-    let mut files = FolderFiles { rt, folder, errors };
-    let mut messages = open_base(rt, words.base, 0)?;
-    let locked = locked?;
-    let exported = export_messages(words, first, &mut messages, &mut files)?;
-    Ok((locked, exported))
+) -> Status
+    requires { (M.state messages.old).is_ready }
+{
+    let mut files = FolderFiles {
+        rt,
+        folder: words.folder,
+        errors,
+    };
+    match export_messages(words, first, messages, &mut files) {
+        Ok(exported) => tell_stored(rt, &exported, out, files.errors),
+        Err(fault) => fault.report(files.errors),
+    }
+}
+
+fn tell_stored<W: Sink, E: Sink>(
+    rt: &HostRuntime,
+    exported: &Exported<'_>,
+    out: &mut W,
+    errors: &mut E,
+) -> Status {
+    let line = tell_exported(rt.alloc(), exported, out);
+    match &exported.stop {
+        None => match line {
+            Ok(()) => Status::Good,
+            Err(fault) => fault.report(errors),
+        },
+        Some(ExportError::Message(fault)) => fault.report(errors),
+        Some(ExportError::File(status)) => *status,
+    }
 }
 
 fn export_messages<'a, M: MessageSource, E: Sink>(
@@ -134,57 +202,75 @@ fn export_messages<'a, M: MessageSource, E: Sink>(
 ) -> Result<Exported<'a>, Fault<'a>>
     requires { (M.state messages.old).is_ready }
 {
-    let (number, bytes) = last_stored(files.rt, files.folder)?;
-    let last = LastFile {
-        number,
-        bytes: bytes.as_ref().map(|bytes| bytes.as_slice()),
-    };
-    let area = words.area.as_bytes();
-    export_files(
-        files.rt.alloc(),
-        area,
-        first,
-        last,
-        words.base,
-        messages,
-        files,
-    )
+    match last_stored(files.rt, files.folder) {
+        Ok((number, bytes)) => {
+            let last = LastFile {
+                number,
+                bytes: bytes.as_ref().map(|bytes| bytes.as_slice()),
+            };
+            let area = words.area.as_bytes();
+            export_files(
+                files.rt.alloc(),
+                area,
+                first,
+                last,
+                words.base,
+                messages,
+                files,
+            )
+        }
+        Err(fault) => Err(fault),
+    }
 }
 
 // The greatest number of a stored message in the folder, 0 where it has none, and the bytes of that one.
 fn last_stored<'a>(rt: &HostRuntime, folder: &'a str) -> Result<(u32, Option<Vec<u8>>), Fault<'a>> {
-    match last_name(rt, folder)? {
-        Some(Last { number, path }) => match read_file(rt, path.as_str(), usize::MAX) {
-            Ok(bytes) => Ok((number, Some(bytes))),
-            Err(Fault::OutOfMemory) => Err(Fault::OutOfMemory),
-            Err(_) => Err(Fault::CannotUse(folder)),
+    match last_name(rt, folder) {
+        Ok(Some(last)) => match read_stored_file(rt, last.path.as_str()) {
+            Ok(bytes) => Ok((last.number, Some(bytes))),
+            Err(fault) => Err(output_fault(fault, folder)),
         },
-        None => Ok((0, None)),
+        Ok(None) => Ok((0, None)),
+        Err(fault) => Err(output_fault(fault, folder)),
+    }
+}
+
+fn read_stored_file(rt: &HostRuntime, path: &str) -> Result<Vec<u8>, OutputFault> {
+    match read_file(rt, path, usize::MAX) {
+        Ok(bytes) => Ok(bytes),
+        Err(Fault::OutOfMemory) => Err(OutputFault::Memory),
+        Err(_) => Err(OutputFault::Device),
     }
 }
 
 // The stored message of the greatest number in the folder. A name that is not UTF-8 has no number. Staging files that
 // stopped runs left are removed.
-fn last_name<'a>(rt: &HostRuntime, folder: &'a str) -> Result<Option<Last>, Fault<'a>> {
-    let names = fs::read_dir(rt, folder).map_err(|error| folder_fault(&error, folder))?;
+fn last_name(rt: &HostRuntime, folder: &str) -> Result<Option<Last>, OutputFault> {
     let mut last: Option<Last> = None;
-    for entry in names {
-        let entry = match entry {
-            Ok(entry) => entry,
-            Err(error) if error.kind() == io::ErrorKind::InvalidFilename => continue,
-            Err(error) => return Err(folder_fault(&error, folder)),
-        };
-        let name = entry.file_name();
-        if is_left(name.as_bytes()) {
-            remove_left(rt, file_path(rt, folder, name)?.as_str());
-        }
-        if let Some(number) = stored_number(name.as_bytes()) {
-            let greatest = last.as_ref().map_or(0, |last| last.number);
-            if number >= greatest {
-                let path = file_path(rt, folder, name)?;
-                last = Some(Last { number, path });
-            }
+    for entry in fs::read_dir(rt, folder)? {
+        match entry {
+            Ok(entry) => note_name(rt, folder, entry.file_name(), &mut last)?,
+            Err(error) if error.kind() == io::ErrorKind::InvalidFilename => {}
+            Err(error) => return Err(OutputFault::from(error)),
         }
     }
     Ok(last)
+}
+
+fn note_name(
+    rt: &HostRuntime,
+    folder: &str,
+    name: &str,
+    last: &mut Option<Last>,
+) -> Result<(), AllocError> {
+    if is_left(name.as_bytes()) {
+        remove_left(rt, file_path(rt, folder, name)?.as_str());
+    }
+    if let Some(number) = stored_number(name.as_bytes()) {
+        if number >= last.as_ref().map_or(0, |last| last.number) {
+            let path = file_path(rt, folder, name)?;
+            *last = Some(Last { number, path });
+        }
+    }
+    Ok(())
 }

@@ -1,3 +1,5 @@
+//! The moment of the clock as a stamp.
+
 ghost use Rattle.std.specs.Prelude.{◌≡◌, ℕ, Some, IfSome, MatchOption, pos};
 ghost use Rattle.jiff_core.specs.{Calendar.IsEpochDay, Date.epoch_day};
 ghost use Rattle.cmd_input.specs.Moment.{IsMomentAt, IsShownAt};

@@ -1,5 +1,7 @@
-use crate::named::{bytes_of, jam_fault, open_file};
-use cmd_status::Fault;
+//! What the files of a JAM base hold before a command adds to them.
+
+use crate::named::{bytes_of, open_file};
+use disk_system::OutputFault;
 use echo_jam::{Standing, read_standing};
 use std::fs::File;
 
@@ -18,31 +20,33 @@ pub(crate) struct Contents {
 }
 
 impl OtherFiles {
-    pub(crate) fn open<'a>(rt: &HostRuntime, path: &'a str) -> Result<OtherFiles, Fault<'a>> {
-        let texts = open_file(rt, path, ".jdt").map_err(|error| jam_fault(&error, path))?;
-        let index = open_file(rt, path, ".jdx").map_err(|error| jam_fault(&error, path))?;
-        Ok(OtherFiles { texts, index })
+    pub(crate) fn open(rt: &HostRuntime, path: &str) -> Result<OtherFiles, OutputFault> {
+        let texts = open_file(rt, path, ".jdt")?;
+        match open_file(rt, path, ".jdx") {
+            Ok(index) => Ok(OtherFiles { texts, index }),
+            Err(fault) => Err(fault),
+        }
     }
 
     /// Reads the index, with these headers. A base that is not whole cannot be used.
-    pub(crate) fn read<'a>(
-        &self,
-        rt: &HostRuntime,
-        path: &'a str,
-        headers: &[u8],
-    ) -> Result<Contents, Fault<'a>> {
-        let entries = bytes_of(rt, path, &self.index)?;
-        let texts_end = match self.texts.metadata() {
-            Ok(found) => found.len(),
-            Err(error) => return Err(jam_fault(&error, path)),
-        };
-        match read_standing(headers, entries.as_slice(), texts_end) {
-            Some(standing) => Ok(Contents {
+    pub(crate) fn read(&self, rt: &HostRuntime, headers: &[u8]) -> Result<Contents, OutputFault> {
+        let entries = bytes_of(rt, &self.index)?;
+        match self.standing(headers, &entries) {
+            Ok((texts_end, standing)) => Ok(Contents {
                 entries,
                 texts_end,
                 standing,
             }),
-            None => Err(Fault::CannotUse(path)),
+            Err(fault) => Err(fault),
+        }
+    }
+
+    // Where the texts end, and what the base has.
+    fn standing(&self, headers: &[u8], entries: &[u8]) -> Result<(u64, Standing), OutputFault> {
+        let texts_end = self.texts.metadata()?.len();
+        match read_standing(headers, entries, texts_end) {
+            Some(standing) => Ok((texts_end, standing)),
+            None => Err(OutputFault::Device),
         }
     }
 }

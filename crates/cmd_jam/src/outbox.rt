@@ -4,12 +4,14 @@
 //! message is posted. The count of changes comes last.
 
 use crate::contents::{Contents, OtherFiles};
+use crate::jam::text_of;
 use crate::locked::locked_again;
-use crate::named::{bytes_of, jam_fault, write_at};
+use crate::named::{bytes_of, write_at};
+use cmd_input::output_fault;
 use cmd_status::Fault;
+use disk_system::OutputFault;
 use echo_jam::{ATTRIBUTE_AT, JamDraft, Last, next_counts, read_jam, read_unsent, sent_attribute};
 use std::fs::File;
-use std::os::unix::fs::FileExt;
 
 /// The offset of the counts in the headers.
 const COUNTS_AT: u64 = 8;
@@ -21,11 +23,16 @@ const HEADER: usize = 76;
 #[derive(Drop)]
 pub struct Outbox<'a> {
     path: &'a str,
+    files: OutboxFiles,
+    marked: bool,
+}
+
+#[derive(Drop)]
+struct OutboxFiles {
     headers: File,
-    texts: File,
+    others: OtherFiles,
     found: Vec<u8>,
     contents: Contents,
-    marked: bool,
 }
 
 /// A message that is to be posted: where its header is, its number in the JAM base, and its text.
@@ -43,33 +50,30 @@ impl OutboxMessage {
     }
 }
 
-impl<'a> Outbox<'a> {
-    /// The JAM base with this path, which has to be there. It is judged whole.
-    pub fn open(rt: &HostRuntime, path: &'a str) -> Result<Outbox<'a>, Fault<'a>> {
+impl OutboxFiles {
+    fn open(rt: &HostRuntime, path: &str) -> Result<OutboxFiles, OutputFault> {
         let headers = locked_again(rt, path)?;
-        let found = bytes_of(rt, path, &headers)?;
+        let found = bytes_of(rt, &headers)?;
         let others = OtherFiles::open(rt, path)?;
-        let contents = others.read(rt, path, &found)?;
-        Ok(Outbox {
-            path,
-            headers,
-            texts: others.texts,
-            found,
-            contents,
-            marked: false,
-        })
+        match others.read(rt, &found) {
+            Ok(contents) => Ok(OutboxFiles {
+                headers,
+                others,
+                found,
+                contents,
+            }),
+            Err(fault) => Err(fault),
+        }
     }
 
-    /// How many entries the index has.
-    pub fn entries(&self) -> usize {
-        self.contents.standing.entries as usize
-    }
-
-    /// The message of an entry, if it is to be posted.
-    pub fn unsent(&self, rt: &HostRuntime, i: usize) -> Result<Option<OutboxMessage>, Fault<'a>> {
-        let (headers, index) = (self.found.as_slice(), self.contents.entries.as_slice());
-        match read_unsent(headers, index, self.contents.texts_end, i) {
-            Some(last) => Ok(Some(self.with_text(rt, last, i)?)),
+    fn unsent(&self, rt: &HostRuntime, i: usize) -> Result<Option<OutboxMessage>, OutputFault> {
+        match read_unsent(
+            &self.found,
+            &self.contents.entries,
+            self.contents.texts_end,
+            i,
+        ) {
+            Some(last) => self.with_text(rt, last, i),
             None => Ok(None),
         }
     }
@@ -80,22 +84,52 @@ impl<'a> Outbox<'a> {
         rt: &HostRuntime,
         last: Last,
         i: usize,
-    ) -> Result<OutboxMessage, Fault<'a>> {
+    ) -> Result<Option<OutboxMessage>, OutputFault> {
         if u64::from(last.text) + u64::from(last.size) > self.contents.texts_end {
-            return Err(Fault::CannotUse(self.path));
+            return Err(OutputFault::Device);
         }
         let standing = self.contents.standing;
         let first = u64::from(standing.next).saturating_sub(u64::from(standing.entries));
-        let mut text = Vec::new(rt.alloc());
-        text.resize(last.size as usize, 0)?;
-        self.texts
-            .read_exact_at(text.as_mut_slice(), u64::from(last.text))
-            .map_err(|error| jam_fault(&error, self.path))?;
-        Ok(OutboxMessage {
-            place: last.place,
-            number: first.saturating_add(i as u64),
-            text,
-        })
+        match text_of(rt, &self.others.texts, last) {
+            Ok(text) => Ok(Some(OutboxMessage {
+                place: last.place,
+                number: first.saturating_add(i as u64),
+                text,
+            })),
+            Err(fault) => Err(fault),
+        }
+    }
+
+    fn count(&self, rt: &HostRuntime) -> Result<(), OutputFault> {
+        let counts = next_counts(rt.alloc(), self.contents.standing, 0)?;
+        write_at(&self.headers, counts.as_slice(), COUNTS_AT)
+    }
+}
+
+impl<'a> Outbox<'a> {
+    /// The JAM base with this path, which has to be there. It is judged whole.
+    pub fn open(rt: &HostRuntime, path: &'a str) -> Result<Outbox<'a>, Fault<'a>> {
+        match OutboxFiles::open(rt, path) {
+            Ok(files) => Ok(Outbox {
+                path,
+                files,
+                marked: false,
+            }),
+            Err(fault) => Err(output_fault(fault, path)),
+        }
+    }
+
+    /// How many entries the index has.
+    pub fn entries(&self) -> usize {
+        self.files.contents.standing.entries as usize
+    }
+
+    /// The message of an entry, if it is to be posted.
+    pub fn unsent(&self, rt: &HostRuntime, i: usize) -> Result<Option<OutboxMessage>, Fault<'a>> {
+        match self.files.unsent(rt, i) {
+            Ok(unsent) => Ok(unsent),
+            Err(fault) => Err(output_fault(fault, self.path)),
+        }
     }
 
     /// The message, read for posting.
@@ -104,43 +138,46 @@ impl<'a> Outbox<'a> {
         rt: &HostRuntime,
         unsent: &OutboxMessage,
     ) -> Result<JamDraft<'b>, Fault<'a>> {
-        if self.found.len() < unsent.place as usize + HEADER {
+        let found = self.files.found.as_slice();
+        if found.len() < unsent.place as usize + HEADER {
             return Err(Fault::CannotUse(self.path));
         }
-        Ok(read_jam(
-            rt.alloc(),
-            self.found.as_slice(),
-            unsent.place,
-            unsent.text.as_slice(),
-        )?)
+        match read_jam(rt.alloc(), found, unsent.place, unsent.text.as_slice()) {
+            Ok(draft) => Ok(draft),
+            Err(_) => Err(Fault::OutOfMemory),
+        }
     }
 
     /// Marks the message as sent.
     pub fn mark(&mut self, unsent: &OutboxMessage) -> Result<(), Fault<'a>> {
-        let at = u64::from(unsent.place) + ATTRIBUTE_AT as u64;
-        match sent_attribute(self.found.as_slice(), unsent.place) {
+        match sent_attribute(self.files.found.as_slice(), unsent.place) {
             Some(byte) => {
                 self.marked = true;
-                write_at(&self.headers, &[byte], at).map_err(|error| jam_fault(&error, self.path))
+                self.put(byte, unsent.place)
             }
             None => Err(Fault::CannotUse(self.path)),
         }
     }
 
-    /// Counts the change, if a message was marked, and gives the lock back.
-    pub fn close(&self, rt: &HostRuntime) -> Result<(), Fault<'a>> {
-        let counted = self.count(rt);
-        let _ = self.headers.unlock();
-        counted
+    fn put(&self, byte: u8, place: u32) -> Result<(), Fault<'a>> {
+        let at = u64::from(place) + ATTRIBUTE_AT as u64;
+        match write_at(&self.files.headers, &[byte], at) {
+            Ok(()) => Ok(()),
+            Err(fault) => Err(output_fault(fault, self.path)),
+        }
     }
 
-    fn count(&self, rt: &HostRuntime) -> Result<(), Fault<'a>> {
-        if !self.marked {
-            return Ok(());
+    /// Counts the change, if a message was marked, and gives the lock back.
+    pub fn close(&self, rt: &HostRuntime) -> Result<(), Fault<'a>> {
+        let counted = if self.marked {
+            self.files.count(rt)
+        } else {
+            Ok(())
+        };
+        let _ = self.files.headers.unlock();
+        match counted {
+            Ok(()) => Ok(()),
+            Err(fault) => Err(output_fault(fault, self.path)),
         }
-        let counts = next_counts(rt.alloc(), self.contents.standing, 0)?;
-        write_at(&self.headers, counts.as_slice(), COUNTS_AT).map_err(|error| jam_fault(
-            &error, self.path,
-        ))
     }
 }

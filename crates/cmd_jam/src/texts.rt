@@ -1,3 +1,5 @@
+//! The text file of a JAM base, written in large pieces.
+
 use std::fs::File;
 use std::io;
 use std::io::Write;

@@ -1,3 +1,5 @@
+//! The commands `show` and `nodelist`.
+
 use cmd_input::{MAX_INPUT, read_file, read_given};
 use cmd_show::{nodelist, show};
 use cmd_status::{Fault, Status, parse_address};

@@ -1,5 +1,7 @@
+//! The notes on faults of files that are read again.
+
 use crate::notes::{FaultLine, tell};
-use crate::reasons::{PathState, Reason, State, WrongLine};
+use crate::reasons::{PathState, Reason, State, WrongLine, push_note};
 use crate::states::{Usage, state_at};
 use cmd_base::is_folder;
 use cmd_input::{MAX_TEXT_FILE, folder_path, lead_to_one, path_names, read_file};
@@ -8,6 +10,7 @@ use cmd_status::Fault;
 use cmd_words::{Paths, Place};
 use disk_io::Sink;
 use echo_links::LinkFault;
+use std::alloc::AllocError;
 use std::{fs, str};
 
 /// The most bytes of a path.
@@ -47,10 +50,22 @@ pub(crate) fn explain_links<E: Sink>(met: FaultLine<'_>, path: &str, errors: &mu
 }
 
 fn explain_line<E: Sink>(met: FaultLine<'_>, path: &str, line: &FaultyLine, errors: &mut E) {
-    if !met.is(Fault::Link(line.fault)) {
-        return;
+    if met.is(Fault::Link(line.fault)) {
+        tell(met.rt, reason_of(path, line), errors);
     }
-    let why = match line.fault {
+}
+
+/// Adds the note on a faulty line of the link file with this path.
+pub fn push_line_note(
+    lines: &mut Vec<u8>,
+    path: &str,
+    line: &FaultyLine,
+) -> Result<(), AllocError> {
+    push_note(lines, reason_of(path, line))
+}
+
+fn reason_of<'a>(path: &'a str, line: &'a FaultyLine) -> Reason<'a> {
+    match line.fault {
         LinkFault::NoSystem { .. } => Reason::Path(PathState {
             path,
             state: State::NoSystem,
@@ -60,8 +75,7 @@ fn explain_line<E: Sink>(met: FaultLine<'_>, path: &str, line: &FaultyLine, erro
             fault,
             word: line.word.as_slice(),
         }),
-    };
-    tell(met.rt, why, errors);
+    }
 }
 
 pub(crate) fn explain_paths<E: Sink>(met: FaultLine<'_>, paths: &Paths<'_>, errors: &mut E) {
@@ -69,18 +83,6 @@ pub(crate) fn explain_paths<E: Sink>(met: FaultLine<'_>, paths: &Paths<'_>, erro
     for name in &found.names {
         if let Ok(path) = name.path() {
             explain_path(met, path, Usage::File, errors);
-        }
-    }
-}
-
-/// The link files of a net, up to the first faulty one.
-pub(crate) fn explain_net<E: Sink>(met: FaultLine<'_>, links: &Paths<'_>, errors: &mut E) {
-    let found = path_names(met.rt, links);
-    for name in &found.names {
-        if let Ok(path) = name.path() {
-            if explain_links(met, path, errors) {
-                return;
-            }
         }
     }
 }

@@ -1,20 +1,20 @@
+//! What a command printed, kept for a note.
+
 use std::alloc::Global;
 use std::io;
 use std::io::Write;
 
-/// Standard output or standard error. Its lines are kept if notes come after them.
+/// Standard error. Its lines are kept for the notes that come after them.
 #[derive(Drop)]
 pub struct KeptLines<W> {
     to: W,
-    keeps: bool,
     kept: Vec<u8>,
 }
 
 impl<W> KeptLines<W> {
-    pub fn new(alloc: Global, to: W, keeps: bool) -> KeptLines<W> {
+    pub fn new(alloc: Global, to: W) -> KeptLines<W> {
         KeptLines {
             to,
-            keeps,
             kept: Vec::new(alloc),
         }
     }
@@ -31,9 +31,7 @@ impl<W> KeptLines<W> {
 impl<W: Write> Write for KeptLines<W> {
     fn write(&mut self, buf: &[u8]) -> io::Result<usize> {
         let count = self.to.write(buf)?;
-        if self.keeps {
-            let _ = self.kept.extend_from_slice(&buf[..count]);
-        }
+        let _ = self.kept.extend_from_slice(&buf[..count]);
         Ok(count)
     }
 

@@ -1,9 +1,8 @@
-//! Notes that explain the faults of commands: the state of a path, or the line, word or packet that is wrong.
-//! `push_note` adds just the line that `reason_line` gives for a reason; tests show which reason applies. The rest is
-//! proved to be safe and to end, and no more. Begin with `reasons` and `notes`.
+//! Notes that explain the faults of commands: the state of a path, or the line, word or packet that is wrong. Those on
+//! the faults of an area are in cmd_net. It is proved to be safe and to end, and no more; rows in examples/cases test the
+//! words of notes, and which reason applies. Begin with `reasons` and `notes`.
 #![tactic(auto)]
 
-mod costs;
 mod file_notes;
 mod heard;
 mod notes;
@@ -12,5 +11,6 @@ mod reasons;
 mod states;
 mod word_notes;
 
+pub use file_notes::push_line_note;
 pub use heard::KeptLines;
 pub use notes::ExplainedCommand;

@@ -1,9 +1,8 @@
-//! Notes on the faults that a command printed. The program looks at the files of the command again. A reason counts if
-//! its fault has the printed line, so a file that has changed since gets no note.
+//! Notes on the faults that a command printed. The program looks at the files of the command again, but for those of a
+//! net. A reason counts if its fault has the printed line, so a file that has changed since gets no note.
 
-use crate::costs::tell_costs;
 use crate::file_notes::{
-    explain_files, explain_links, explain_net, explain_outbound, explain_path, explain_paths,
+    explain_files, explain_links, explain_outbound, explain_path, explain_paths,
 };
 use crate::packets::explain_packets;
 use crate::reasons::{PathState, Reason, State, WordForm, push_note};
@@ -14,8 +13,8 @@ use crate::word_notes::{
 use cmd_input::{MAX_TEXT_FILE, path_names, read_file};
 use cmd_status::{Fault, print_rest};
 use cmd_words::{
-    BaseWords, CheckWords, NetWords, ParsedLine, PostStoredWords, PostWords, ReplyWords,
-    ResendWords, StationWords, TossWords, Words,
+    BaseWords, CheckWords, NetWords, ParsedLine, PostStoredWords, PostWords, PurgeWords,
+    ReplyWords, ResendWords, StationWords, TossWords, Words,
 };
 use disk_io::Sink;
 use echo_stored::read_stored;
@@ -83,14 +82,8 @@ impl<'a> ExplainedCommand<'a> {
         })
     }
 
-    /// Whether its answer gets notes.
-    pub fn has_noted_answer(&self) -> bool {
-        matches!(self.words, Words::Net(NetWords::Check(_)))
-    }
-
-    /// Prints a note on each of these fault lines with a known reason, on the kept answer, and on what the command made.
-    pub fn tell<E: Sink>(&self, printed: &[u8], answer: &[u8], errors: &mut E) {
-        tell_costs(self.rt, answer, errors);
+    /// Prints a note on each of these fault lines with a known reason, and on what the command made.
+    pub fn tell<E: Sink>(&self, printed: &[u8], errors: &mut E) {
         for line in printed.split(|byte| *byte == b'\n') {
             if !line.is_empty() {
                 let met = FaultLine { rt: self.rt, line };
@@ -163,11 +156,11 @@ fn explain_net_words<E: Sink>(met: FaultLine<'_>, words: &NetWords<'_>, errors: 
         }
         NetWords::Check(words) => explain_check(met, words, errors),
         NetWords::Links { links, .. } => explain_paths(met, links, errors),
-        NetWords::Why(words) => explain_net(met, &words.links, errors),
-        NetWords::Picture(words) => explain_net(met, &words.links, errors),
+        NetWords::Why(words) => explain_paths(met, &words.links, errors),
+        NetWords::Picture(words) => explain_paths(met, &words.links, errors),
         NetWords::Replay { script, links } => {
             explain_path(met, *script, Usage::File, errors);
-            explain_net(met, links, errors);
+            explain_paths(met, links, errors);
         }
     }
 }
@@ -209,7 +202,15 @@ fn explain_station_words<E: Sink>(met: FaultLine<'_>, words: &StationWords<'_>, 
             explain_path(met, words.folder, Usage::Folder, errors);
             explain_outbound(met, words.place.base, words.folder, errors);
         }
-        StationWords::Purge(place) => explain_files(met, *place, errors),
+        StationWords::Purge(words) => explain_purge(met, *words, errors),
+    }
+}
+
+fn explain_purge<E: Sink>(met: FaultLine<'_>, words: PurgeWords<'_>, errors: &mut E) {
+    explain_word(met, Fault::BadNumber, WordForm::Number, words.to, errors);
+    explain_files(met, words.place, errors);
+    if let Some(tag) = words.area {
+        explain_area(met, tag, words.place.links, errors);
     }
 }
 
@@ -217,7 +218,7 @@ fn explain_check<E: Sink>(met: FaultLine<'_>, words: &CheckWords<'_>, errors: &m
     if let Some(list) = words.nodelist {
         explain_path(met, list, Usage::File, errors);
     }
-    explain_net(met, &words.links, errors);
+    explain_paths(met, &words.links, errors);
 }
 
 fn explain_read<E: Sink>(met: FaultLine<'_>, from: Option<&str>, base: &str, errors: &mut E) {

@@ -1,3 +1,5 @@
+//! The notes on faulty packets.
+
 use crate::notes::{FaultLine, tell};
 use crate::reasons::{FaultyPacket, Misdelivered, PacketPlace, Reason};
 use cmd_input::{MAX_TEXT_FILE, PathName, read_file};

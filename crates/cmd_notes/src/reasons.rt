@@ -1,6 +1,4 @@
-ghost use Rattle.std.specs.Prelude.{◌≡◌, ◌++◌, codes, decimal, OnOk};
-ghost use Rattle.{echo_addr.specs.Address.address_text, echo_charset.specs.Words.printed_word};
-ghost use Rattle.cmd_notes.specs.Reasons.{complaint, cost_words, expectation, faulty_packet_reason, field_name, form_complaint, form_expectation, form_reason, line_reason, long_reason, misdelivered_reason, not_seen_words, packet_complaint, packet_words, path_reason, reason_line, reason_text, state_words, word_reason};
+//! The reasons that a note gives, in words.
 
 use cmd_show::{fault_number, push_number};
 use echo_addr::Address;
@@ -25,32 +23,6 @@ pub enum Reason<'a> {
     NoMessage(u64, u64),
     /// No message of the base has the area of this tag. The path of the base comes second.
     NoneOfArea(&'a str, &'a str),
-    Cost(Cost),
-    NotSeen(NotSeen),
-}
-
-/// A fault of an area.
-#[derive(Clone, Copy, Debug, PartialEq, Eq)]
-pub enum Cost {
-    NoSuchArea,
-    TwoFiles,
-    SelfLink,
-    Unknown,
-    OneSided,
-    SameNetNode,
-    Apart,
-    Loop,
-}
-
-/// What the given files do not show.
-#[derive(Clone, Copy, Debug, PartialEq, Eq)]
-pub enum NotSeen {
-    /// What lies behind two assumed systems, after a yes.
-    AfterYes,
-    /// What lies behind two assumed systems, after a V7.
-    AfterApart,
-    /// What lies behind one assumed system.
-    BehindOne,
 }
 
 /// A line of a link file with this path: its fault, which has its number, and the wrong word in it.
@@ -135,18 +107,14 @@ pub struct WrongWord<'a> {
 }
 
 /// Adds the line that gives a reason.
-pub fn push_note(lines: &mut Vec<u8>, why: Reason<'_>) -> Result<(), AllocError>
-    ensures { OnOk result (lines.new.items ≡ lines.old.items ++ reason_line why.entry) }
-{
+pub fn push_note(lines: &mut Vec<u8>, why: Reason<'_>) -> Result<(), AllocError> {
     lines.extend_from_slice(b"echonet: note: ")?;
     push_reason(lines, why)?;
     lines.push(b'\n')?;
     Ok(())
 }
 
-fn push_reason(lines: &mut Vec<u8>, why: Reason<'_>) -> Result<(), AllocError>
-    ensures { OnOk result (lines.new.items ≡ lines.old.items ++ reason_text why.entry) }
-{
+fn push_reason(lines: &mut Vec<u8>, why: Reason<'_>) -> Result<(), AllocError> {
     match why {
         Reason::Line(line) => push_line(lines, line),
         Reason::Path(found) => push_file_path(lines, found),
@@ -157,22 +125,16 @@ fn push_reason(lines: &mut Vec<u8>, why: Reason<'_>) -> Result<(), AllocError>
         Reason::NoArea(tag, links) => push_no_area(lines, tag, links),
         Reason::NoMessage(number, count) => push_no_message(lines, number, count),
         Reason::NoneOfArea(tag, base) => push_none_of_area(lines, tag, base),
-        Reason::Cost(cost) => lines.extend_from_slice(cost_words(cost)),
-        Reason::NotSeen(what) => lines.extend_from_slice(not_seen_words(what)),
     }
 }
 
-fn push_line(lines: &mut Vec<u8>, line: WrongLine<'_>) -> Result<(), AllocError>
-    ensures { OnOk result (lines.new.items ≡ lines.old.items ++ line_reason line.entry) }
-{
+fn push_line(lines: &mut Vec<u8>, line: WrongLine<'_>) -> Result<(), AllocError> {
     push_word(lines, line.path.as_bytes())?;
     push_number(lines, fault_number(line.fault))?;
     push_complaint(lines, line.fault, line.word)
 }
 
-fn push_complaint(lines: &mut Vec<u8>, fault: LinkFault, word: &[u8]) -> Result<(), AllocError>
-    ensures { OnOk result (lines.new.items ≡ lines.old.items ++ word_reason fault word.now) }
-{
+fn push_complaint(lines: &mut Vec<u8>, fault: LinkFault, word: &[u8]) -> Result<(), AllocError> {
     lines.extend_from_slice(complaint(fault))?;
     lines.extend_from_slice(b" '")?;
     push_word(lines, word)?;
@@ -180,9 +142,7 @@ fn push_complaint(lines: &mut Vec<u8>, fault: LinkFault, word: &[u8]) -> Result<
     lines.extend_from_slice(expectation(fault))
 }
 
-fn complaint(fault: LinkFault) -> &'static [u8]
-    ensures { result.now ≡ complaint fault }
-{
+fn complaint(fault: LinkFault) -> &'static [u8] {
     match fault {
         LinkFault::UnknownWord { .. } => b"unknown word",
         LinkFault::BadAddress { .. } => b"bad address",
@@ -196,9 +156,7 @@ fn complaint(fault: LinkFault) -> &'static [u8]
     }
 }
 
-fn expectation(fault: LinkFault) -> &'static [u8]
-    ensures { result.now ≡ expectation fault }
-{
+fn expectation(fault: LinkFault) -> &'static [u8] {
     match fault {
         LinkFault::UnknownWord { .. } => b"expected SYSTEM, NAME or AREA",
         LinkFault::BadAddress { .. } => b"expected zone:net/node",
@@ -212,17 +170,13 @@ fn expectation(fault: LinkFault) -> &'static [u8]
     }
 }
 
-fn push_file_path(lines: &mut Vec<u8>, found: PathState<'_>) -> Result<(), AllocError>
-    ensures { OnOk result (lines.new.items ≡ lines.old.items ++ path_reason found.entry) }
-{
+fn push_file_path(lines: &mut Vec<u8>, found: PathState<'_>) -> Result<(), AllocError> {
     push_word(lines, found.path.as_bytes())?;
     lines.extend_from_slice(b": ")?;
     lines.extend_from_slice(state_words(found.state))
 }
 
-fn state_words(state: State) -> &'static [u8]
-    ensures { result.now ≡ state_words state }
-{
+fn state_words(state: State) -> &'static [u8] {
     match state {
         State::NoFile => b"no such file",
         State::NoFolder => b"no such folder",
@@ -236,43 +190,31 @@ fn state_words(state: State) -> &'static [u8]
     }
 }
 
-fn push_packet(lines: &mut Vec<u8>, place: PacketPlace<'_>) -> Result<(), AllocError>
-    ensures { OnOk result (lines.new.items ≡ lines.old.items ++ packet_words place.entry) }
-{
+fn push_packet(lines: &mut Vec<u8>, place: PacketPlace<'_>) -> Result<(), AllocError> {
     push_count(lines, place.number, place.packets)?;
     push_word(lines, place.path.as_bytes())?;
     lines.extend_from_slice(b": it ")
 }
 
-fn push_count(lines: &mut Vec<u8>, number: usize, packets: usize) -> Result<(), AllocError>
-    ensures { OnOk result (lines.new.items ≡ lines.old.items ++ (codes "packet " ++ (decimal number ++ (codes " of " ++ (decimal packets ++ codes ", "))))) }
-{
+fn push_count(lines: &mut Vec<u8>, number: usize, packets: usize) -> Result<(), AllocError> {
     written(write!(lines, "packet {number} of {packets}, "))
 }
 
-fn push_misdelivered(lines: &mut Vec<u8>, wrong: Misdelivered<'_>) -> Result<(), AllocError>
-    ensures { OnOk result (lines.new.items ≡ lines.old.items ++ misdelivered_reason wrong.entry) }
-{
+fn push_misdelivered(lines: &mut Vec<u8>, wrong: Misdelivered<'_>) -> Result<(), AllocError> {
     push_packet(lines, wrong.packet)?;
     push_addresses(lines, wrong.to, wrong.own)
 }
 
-fn push_addresses(lines: &mut Vec<u8>, to: Address, own: Address) -> Result<(), AllocError>
-    ensures { OnOk result (lines.new.items ≡ lines.old.items ++ (codes "is for " ++ (address_text to ++ (codes ", this is " ++ address_text own)))) }
-{
+fn push_addresses(lines: &mut Vec<u8>, to: Address, own: Address) -> Result<(), AllocError> {
     written(write!(lines, "is for {to}, this is {own}"))
 }
 
-fn push_faulty(lines: &mut Vec<u8>, faulty: FaultyPacket<'_>) -> Result<(), AllocError>
-    ensures { OnOk result (lines.new.items ≡ lines.old.items ++ faulty_packet_reason faulty.entry) }
-{
+fn push_faulty(lines: &mut Vec<u8>, faulty: FaultyPacket<'_>) -> Result<(), AllocError> {
     push_packet(lines, faulty.packet)?;
     lines.extend_from_slice(packet_complaint(faulty.fault))
 }
 
-fn packet_complaint(fault: PacketFault) -> &'static [u8]
-    ensures { result.now ≡ packet_complaint fault }
-{
+fn packet_complaint(fault: PacketFault) -> &'static [u8] {
     match fault {
         PacketFault::Truncated { .. } => b"is cut off",
         PacketFault::NotType2 { .. } => b"is not of type 2",
@@ -288,22 +230,16 @@ fn packet_complaint(fault: PacketFault) -> &'static [u8]
     }
 }
 
-fn push_long(lines: &mut Vec<u8>, long: LongField) -> Result<(), AllocError>
-    ensures { OnOk result (lines.new.items ≡ lines.old.items ++ long_reason long) }
-{
+fn push_long(lines: &mut Vec<u8>, long: LongField) -> Result<(), AllocError> {
     lines.extend_from_slice(field_name(long.field))?;
     push_lengths(lines, long.length, long.most)
 }
 
-fn push_lengths(lines: &mut Vec<u8>, length: usize, most: usize) -> Result<(), AllocError>
-    ensures { OnOk result (lines.new.items ≡ lines.old.items ++ (codes " is " ++ (decimal length ++ (codes " bytes long, " ++ (decimal most ++ codes " are allowed"))))) }
-{
+fn push_lengths(lines: &mut Vec<u8>, length: usize, most: usize) -> Result<(), AllocError> {
     written(write!(lines, " is {length} bytes long, {most} are allowed"))
 }
 
-fn field_name(field: Field) -> &'static [u8]
-    ensures { result.now ≡ field_name field }
-{
+fn field_name(field: Field) -> &'static [u8] {
     match field {
         Field::ToName => b"to",
         Field::FromName => b"from",
@@ -312,17 +248,13 @@ fn field_name(field: Field) -> &'static [u8]
     }
 }
 
-fn push_form(lines: &mut Vec<u8>, wrong: WrongWord<'_>) -> Result<(), AllocError>
-    ensures { OnOk result (lines.new.items ≡ lines.old.items ++ form_reason wrong.entry) }
-{
+fn push_form(lines: &mut Vec<u8>, wrong: WrongWord<'_>) -> Result<(), AllocError> {
     lines.extend_from_slice(form_complaint(wrong.form))?;
     push_word(lines, wrong.word.as_bytes())?;
     lines.extend_from_slice(form_expectation(wrong.form))
 }
 
-fn form_complaint(form: WordForm) -> &'static [u8]
-    ensures { result.now ≡ form_complaint form }
-{
+fn form_complaint(form: WordForm) -> &'static [u8] {
     match form {
         WordForm::Stamp => b"bad stamp '",
         WordForm::Serial => b"bad serial '",
@@ -331,9 +263,7 @@ fn form_complaint(form: WordForm) -> &'static [u8]
     }
 }
 
-fn form_expectation(form: WordForm) -> &'static [u8]
-    ensures { result.now ≡ form_expectation form }
-{
+fn form_expectation(form: WordForm) -> &'static [u8] {
     match form {
         WordForm::Stamp => b"', expected YYYY-MM-DDThh:mm:ss, now or local",
         WordForm::Serial => b"', expected eight hexadecimal digits or auto",
@@ -343,58 +273,26 @@ fn form_expectation(form: WordForm) -> &'static [u8]
     }
 }
 
-fn push_no_area(lines: &mut Vec<u8>, tag: &str, links: &str) -> Result<(), AllocError>
-    ensures { OnOk result (lines.new.items ≡ lines.old.items ++ (codes "no area " ++ (printed_word tag.now ++ (codes " in " ++ printed_word links.now)))) }
-{
+fn push_no_area(lines: &mut Vec<u8>, tag: &str, links: &str) -> Result<(), AllocError> {
     push_area_in(lines, b"no area ", tag, links)
 }
 
-fn push_area_in(lines: &mut Vec<u8>, words: &[u8], tag: &str, place: &str) -> Result<(), AllocError>
-    ensures { OnOk result (lines.new.items ≡ lines.old.items ++ (words.now ++ (printed_word tag.now ++ (codes " in " ++ printed_word place.now)))) }
-{
+fn push_area_in(
+    lines: &mut Vec<u8>,
+    words: &[u8],
+    tag: &str,
+    place: &str,
+) -> Result<(), AllocError> {
     lines.extend_from_slice(words)?;
     push_word(lines, tag.as_bytes())?;
     lines.extend_from_slice(b" in ")?;
     push_word(lines, place.as_bytes())
 }
 
-fn push_no_message(lines: &mut Vec<u8>, number: u64, count: u64) -> Result<(), AllocError>
-    ensures { OnOk result (lines.new.items ≡ lines.old.items ++ (codes "no message " ++ (decimal number ++ (codes ", the base has " ++ decimal count)))) }
-{
+fn push_no_message(lines: &mut Vec<u8>, number: u64, count: u64) -> Result<(), AllocError> {
     written(write!(lines, "no message {number}, the base has {count}"))
 }
 
-fn push_none_of_area(lines: &mut Vec<u8>, tag: &str, base: &str) -> Result<(), AllocError>
-    ensures { OnOk result (lines.new.items ≡ lines.old.items ++ (codes "no message of area " ++ (printed_word tag.now ++ (codes " in " ++ printed_word base.now)))) }
-{
+fn push_none_of_area(lines: &mut Vec<u8>, tag: &str, base: &str) -> Result<(), AllocError> {
     push_area_in(lines, b"no message of area ", tag, base)
-}
-
-fn cost_words(cost: Cost) -> &'static [u8]
-    ensures { result.now ≡ cost_words cost }
-{
-    match cost {
-        Cost::NoSuchArea => b"V1 NoSuchArea: the file is wrong",
-        Cost::TwoFiles => b"V2 TwoFiles: the file is wrong",
-        Cost::SelfLink => b"V3 SelfLink: the file is wrong",
-        Cost::Unknown => b"V4 Unknown: mail is lost",
-        Cost::OneSided => b"V5 OneSided: mail is lost",
-        Cost::SameNetNode => b"V6 SameNetNode: mail may be lost",
-        Cost::Apart => b"V7 Apart: mail is lost",
-        Cost::Loop => b"V8 Loop: mail is sent twice",
-    }
-}
-
-fn not_seen_words(what: NotSeen) -> &'static [u8]
-    ensures { result.now ≡ not_seen_words what }
-{
-    match what {
-        NotSeen::AfterYes => b"unseen: a loop outside the given files may still bring mail twice",
-        NotSeen::AfterApart => {
-            b"unseen: a way outside the given files may join the parts, so V7 is often a false alarm"
-        }
-        NotSeen::BehindOne => {
-            b"assumed: what the assumed system exchanges with others was not seen"
-        }
-    }
 }

@@ -1,3 +1,5 @@
+//! What stands at a path that cannot be used.
+
 use crate::reasons::{PathState, State};
 use disk_system::parent_path;
 use std::fs::Metadata;

@@ -40,7 +40,7 @@ pub(crate) fn explain_moment<E: Sink>(
 }
 
 pub(crate) fn explain_area<E: Sink>(met: FaultLine<'_>, tag: &str, links: &str, errors: &mut E) {
-    if met.is(Fault::Post(PostFault::NoArea)) {
+    if met.is(Fault::Post(PostFault::NoArea)) || met.is(Fault::NoArea(tag)) {
         tell(met.rt, Reason::NoArea(tag, links), errors);
     }
 }

@@ -1,21 +1,37 @@
--- The files of messages, and why they were not made.
-use Rattle.std.{proofs.Common.{◌≡◌, ◌≤◌, ℕ, Bool, true, List, [], ◌∷◌, ◌∙◌, ap, sym, Option, Some, Result, arith}, specs.{Prelude.if◌then◌else◌, Result.IfErr}}
-use Rattle.{echo_filed.specs.Filed.Filed, base_file.specs.Base.Base, base_folder.proofs.Fetchings.unread_since, cmd_status.specs.declared.status.Status.Status}
-use Rattle.cmd_numbered.specs.{Numbered.{EndsAt, IsMadeFrom, IsUnexported, IsUnmade, file_at, file_of, is_exported}, declared.folder.MessageFile.MessageFile}
-use Rattle.cmd_numbered.specs.declared.numbering.{Exported.Exported, ExportError.ExportError}
+-- The files that a folder gets, and why it did not get one.
+use Rattle.std.proofs.{Common.{◌≡◌, ◌≤◌, ◌+◌, ◌∙◌, ℕ, List, [], ◌∷◌, ◌++◌, Option, Some, None, refl, sym, ap, append_assoc, arith, length}, lemmas.List.{append-nil, length-append}}
+use Rattle.{base_folder.proofs.Fetchings.unread_since, cmd_status.specs.declared.status.Status.Status}
+use Rattle.cmd_numbered.specs.{Folders.Gets, Numbered.{HasMade, IsStopped, IsUnmade}, declared.{folder.MessageFile.MessageFile, numbering.ExportError.ExportError}}
 
-pub one_file : (area : List ℕ) (first cursor number i : ℕ) (m : Filed) (found : Option Filed) (is : Bool) → Some m ≡ found → is ≡ is_exported area first cursor i m → is ≡ true
-    → file_at area first cursor number i found ≡ file_of cursor number i m ∷ []
-one_file area first cursor number i m found is here exported so =
-    ap (file_at area first cursor number i) (sym here) ∙ ap (λ (b : Bool). if b then file_of cursor number i m ∷ [] else []) (sym exported ∙ so)
+gets_more : (a b c : Option (List MessageFile)) (first second : List MessageFile) → Gets a b first → Gets b c second → Gets a c (first ++ second)
+gets_more None b c first second was is = tt
+gets_more (Some before) None c first second was is = absurd was
+gets_more (Some before) (Some mid) None first second was is = absurd is
+gets_more (Some before) (Some mid) (Some now) first second was is = is ∙ ap (λ (l : List MessageFile). l ++ second) was ∙ append_assoc before first second
 
-pub unmade : (files : List MessageFile) (file : MessageFile) (Refused : Status → Type 0) (path : List ℕ) (before now : ℕ) (result : Result ℕ ExportError) → files ≡ file ∷ [] → IfErr result (IsUnmade Refused) → IfErr result (IsUnexported files Refused path before now)
-unmade files file Refused path before now h7 are why = grind arith
+pub none_made : (a : Option (List MessageFile)) → HasMade a a 0
+none_made None = record { files = []; many = refl; got = tt }
+none_made (Some now) = record { files = []; many = refl; got = sym (append-nil now) }
 
-ends_since : (area : List ℕ) (from number : ℕ) (base : Base) (Refused : Status → Type 0) (path : List ℕ) (first before now seen next : ℕ) (stop : Option ExportError) → first ≤ before
-    → EndsAt area from number base Refused path before now seen next stop → EndsAt area from number base Refused path first now seen next stop
-ends_since area from number base Refused path first before now seen next h12 less ends = grind (arith, unread_since)
+pub one_made : (a b : Option (List MessageFile)) (file : MessageFile) → Gets a b (file ∷ []) → HasMade a b 1
+one_made a b file is = record { files = file ∷ []; many = refl; got = is }
 
-pub made_since : (area given : List ℕ) (from number second : ℕ) (base : Base) (Refused : Status → Type 0) (path : List ℕ) (first before now : ℕ) (old new : Option (List MessageFile)) (exported : Exported)
-    → given ≡ area → second ≡ number → first ≤ before → IsMadeFrom given from second base Refused path before now old new exported → IsMadeFrom area from number base Refused path first now old new exported
-made_since area given from number second base Refused path first before now old new exported same_area same_number less made = grind (arith, ends_since)
+pub more_made : (a b c : Option (List MessageFile)) (m n : ℕ) → HasMade a b m → HasMade b c n → HasMade a c (m + n)
+more_made a b c m n was is = record {
+  files = was.files ++ is.files;
+  many = omega (arith, was.many, is.many, length-append was.files is.files);
+  got = gets_more a b c was.files is.files was.got is.got;
+}
+
+pub no_more_made : (a b c : Option (List MessageFile)) (m : ℕ) → HasMade a b m → Gets b c [] → HasMade a c m
+no_more_made a b c m was is = record {
+  files = was.files ++ [];
+  many = omega (arith, was.many, length-append was.files []);
+  got = gets_more a b c was.files [] was.got is;
+}
+
+pub unmade_since : (Refused : Status → Type 0) (path : List ℕ) (first before now : ℕ) (why : ExportError) → first ≤ before → IsUnmade Refused path before now why → IsUnmade Refused path first now why
+unmade_since Refused path first before now why less is = grind (arith, unread_since)
+
+pub stopped_since : (Refused : Status → Type 0) (path : List ℕ) (first before now : ℕ) (stop : Option ExportError) → first ≤ before → IsStopped Refused path before now stop → IsStopped Refused path first now stop
+stopped_since Refused path first before now stop less is = grind (arith, unmade_since)

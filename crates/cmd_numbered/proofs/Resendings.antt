@@ -1,6 +1,6 @@
 use Rattle.std.proofs.Common.{◌≡◌, ◌≤◌, ◌+◌, ⊎_elim, ℕ, zero, suc, ◌<◌, ◌++◌, List, [], ◌∷◌, Option, Some, ◌∙◌, refl, subst, arith, slice_get, length}
 use Rattle.{std.proofs.lemmas.Bool.cases_lt, base_folder.specs.Source.SourceState, echo_addr.specs.declared.address.Address.Address}
-use Rattle.{echo_filed.specs.Filed.Filed, echo_links.specs.Links.LinkFile, echo_packet.specs.Message.Message, echo_toss.specs.Exports.IsResentAt}
+use Rattle.{echo_filed.specs.Filed.Filed, echo_links.specs.Links.LinkFile, echo_packet.specs.Message.Message, echo_steps.specs.Exports.IsResentAt}
 use Rattle.cmd_numbered.specs.Resending.{AreLegibleFrom, copies_at}
 
 found_at : {X : Type 0} (xs : List X) (i : ℕ) → i < length xs → (x : X) × (slice_get xs i ≡ Some x)

@@ -2,7 +2,6 @@ pub mod Reading
 pub mod Names
 pub mod Folders
 pub mod Numbered
-pub mod Reported
 pub mod JamAdded
 pub mod Resending
 pub mod Finding

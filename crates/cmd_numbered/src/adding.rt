@@ -1,8 +1,8 @@
 //! Which messages are added to a JAM base, and what that adds.
-ghost use Rattle.std.specs.Prelude.{◌≡◌, ◌≤◌, ◌+◌, ◌++◌, ◌&&◌, ℕ, List, Option, [], IfErr, IfOk, OnErr, OnOk, length, option_copied};
+ghost use Rattle.std.specs.Prelude.{◌≡◌, ◌≤◌, IfErr, OnOk};
 ghost use Rattle.base_file.specs.Base.{Base};
-ghost use Rattle.{base_folder.specs.{Fetching.IsUnread, Source.{AreLegible, LooksAt}}, cmd_status.specs.Lines.WritesFront, echo_jam.specs.Fields.body_of};
-ghost use Rattle.cmd_numbered.specs.JamAdded.{Added, HasAdded, HasBegun, IsJamExport, IsUnadded, IsUnsent, added_at, added_in, added_of, is_added, is_last_jam, is_written_there, jam_texts, nothing_added, resumed_jam, with_message};
+ghost use Rattle.base_folder.specs.{Fetching.IsUnread, Source.{AreLegible, LooksAt}};
+ghost use Rattle.cmd_numbered.specs.JamAdded.{IsUnadded, IsUnsent};
 
 use crate::jam_export_error::JamExportError;
 use crate::numbering::is_exported;
@@ -61,11 +61,8 @@ pub fn export_jam<'a, M: MessageSource, W: Sink>(
     texts: &mut W,
 ) -> Result<JamExport, JamExportError<'a>>
     requires { (M.state messages.old).is_ready }
-    ensures added { (M.state messages.new).is_honest → (base : Base) → (M.state messages.old).holds base
-        → IfOk result (IsJamExport area.now first jam.entry.headers.now jam.entry.index.now jam.entry.last jam.entry.text.now jam.entry.end (W.contents texts.old) (W.contents texts.new) base) }
     ensures fault { (M.state messages.new).is_honest → (base : Base) → (M.state messages.old).holds base
         → IfErr result (IsUnsent path.now (M.state messages.old).failures (M.state messages.new).failures (W.failures texts.old) (W.failures texts.new)) }
-    ensures begun { OnErr result (HasBegun (M.state messages.old) (M.state messages.new) (jam_texts area.now first jam.entry.headers.now jam.entry.index.now jam.entry.last jam.entry.text.now jam.entry.end) (W.contents texts.old) (W.contents texts.new)) }
     ensures ok { OnOk result (W.failures texts.new ≡ W.failures texts.old) }
     ensures whole { (M.state messages.new).is_honest → OnOk result (AreLegible (M.state messages.old)) }
     ensures looks { LooksAt (M.state messages.old) (M.state messages.new) }
@@ -88,8 +85,6 @@ fn resumed_jam<'a, M: MessageSource>(
     messages: &mut M,
 ) -> Result<u64, Fault<'a>>
     requires { (M.state messages.old).is_ready }
-    ensures from { (M.state messages.new).is_honest → (base : Base) → (M.state messages.old).holds base
-        → IfOk result (λ from. from ≡ resumed_jam area.now first base.cursor jam.entry.headers.now jam.entry.last jam.entry.text.now base.messages (length base.messages)) }
     ensures fault { (M.state messages.new).is_honest → (base : Base) → (M.state messages.old).holds base
         → IfErr result (IsUnread path.now (M.state messages.old).failures (M.state messages.new).failures) }
     ensures whole { (M.state messages.new).is_honest → OnOk result (AreLegible (M.state messages.old)) }
@@ -116,9 +111,7 @@ fn is_last_jam(
     jam: JamBase<'_>,
     i: usize,
     message: Option<&Filed>,
-) -> Result<bool, AllocError>
-    ensures { IfOk result (λ is. is ≡ is_last_jam area.now first cursor jam.entry.headers.now jam.entry.last jam.entry.text.now i (option_copied message.entry)) }
-{
+) -> Result<bool, AllocError> {
     let Some(place) = jam.last else {
         return Ok(false);
     };
@@ -149,12 +142,8 @@ fn added_of<'a, M: MessageSource, W: Sink>(
     texts: &mut W,
 ) -> Result<Adding, JamExportError<'a>>
     requires { (M.state messages.old).is_ready }
-    ensures added { (M.state messages.new).is_honest → (base : Base) → (M.state messages.old).holds base
-        → IfOk result (λ adding. HasAdded adding (W.contents texts.old) (W.contents texts.new) (added_of area.now first base.cursor jam.entry.headers.now jam.entry.index.now jam.entry.end base.messages (length base.messages))) }
     ensures fault { (M.state messages.new).is_honest → (base : Base) → (M.state messages.old).holds base
         → IfErr result (IsUnsent path.now (M.state messages.old).failures (M.state messages.new).failures (W.failures texts.old) (W.failures texts.new)) }
-    ensures begun { OnErr result (HasBegun (M.state messages.old) (M.state messages.new)
-        (λ base. (added_of area.now first base.cursor jam.entry.headers.now jam.entry.index.now jam.entry.end base.messages (length base.messages)).texts) (W.contents texts.old) (W.contents texts.new)) }
     ensures ok { OnOk result (W.failures texts.new ≡ W.failures texts.old) }
     ensures whole { (M.state messages.new).is_honest → OnOk result (AreLegible (M.state messages.old)) }
     ensures looks { LooksAt (M.state messages.old) (M.state messages.new) }
@@ -168,19 +157,7 @@ fn added_of<'a, M: MessageSource, W: Sink>(
         cursor,
         jam,
     };
-    let mut adding = nothing_added(alloc);
-    'messages: for i in 0..count {
-        fetch_message(messages, path, i)?;
-        add_if_wanted(alloc, &mut adding, wanted, i, messages.at_hand(), texts)?;
-    }
-    Ok(adding)
-}
-
-fn nothing_added(alloc: Global) -> Adding
-    ensures added { added_in result [] ≡ nothing_added }
-    ensures sent { result.sent ≡ 0 }
-{
-    Adding {
+    let mut adding = Adding {
         jam: Jam {
             headers: Vec::new(alloc),
             texts: Vec::new(alloc),
@@ -189,7 +166,12 @@ fn nothing_added(alloc: Global) -> Adding
         },
         sent: 0,
         messages: Vec::new(alloc),
+    };
+    'messages: for i in 0..count {
+        fetch_message(messages, path, i)?;
+        add_if_wanted(alloc, &mut adding, wanted, i, messages.at_hand(), texts)?;
     }
+    Ok(adding)
 }
 
 fn add_if_wanted<'a, W: Sink>(
@@ -200,58 +182,32 @@ fn add_if_wanted<'a, W: Sink>(
     message: Option<&Filed>,
     texts: &mut W,
 ) -> Result<(), JamExportError<'a>>
-    ensures added { (start : Option (List ℕ)) (added : Added) → HasAdded adding.old start (W.contents texts.old) added
-        → OnOk result (HasAdded adding.new start (W.contents texts.new) (added_at wanted.entry.area.now wanted.entry.first wanted.entry.cursor wanted.entry.jam.headers.now wanted.entry.jam.index.now wanted.entry.jam.end i (option_copied message.entry) added)) }
-    ensures begun { (start : Option (List ℕ)) (added : Added) → HasAdded adding.old start (W.contents texts.old) added
-        → OnErr result (WritesFront (added_at wanted.entry.area.now wanted.entry.first wanted.entry.cursor wanted.entry.jam.headers.now wanted.entry.jam.index.now wanted.entry.jam.end i (option_copied message.entry) added).texts start (W.contents texts.new)) }
     ensures fault { IfErr result (IsUnadded (W.failures texts.old) (W.failures texts.new)) }
     ensures ok { OnOk result (W.failures texts.new ≡ W.failures texts.old) }
 {
     let Some(message) = message else {
         return Ok(());
     };
-    if !is_wanted(wanted, i, message) {
+    let Selection {
+        area,
+        first,
+        cursor,
+        jam,
+    } = wanted;
+    if !is_exported(area, first, cursor, i, message) || is_written_there(jam, message) {
         return Ok(());
     }
-    let scanned = i < wanted.cursor;
-    add_message(alloc, adding, wanted.jam.end, i, message, scanned, texts)
+    push_message(alloc, adding, jam.end, i, message, i < cursor)?;
+    send(texts, &adding.jam.texts, &mut 0)?;
+    Ok(())
 }
 
-fn is_wanted(wanted: Selection<'_>, i: usize, message: &Filed) -> bool
-    ensures { result ≡ is_added wanted.entry.area.now wanted.entry.first wanted.entry.cursor wanted.entry.jam.headers.now wanted.entry.jam.index.now i message.now }
-{
-    is_exported(wanted.area, wanted.first, wanted.cursor, i, message)
-        && !is_written_there(wanted.jam, message)
-}
-
-fn is_written_there(jam: JamBase<'_>, message: &Filed) -> bool
-    ensures { result ≡ is_written_there jam.entry.headers.now jam.entry.index.now message.now }
-{
+// Whether an editor wrote the message into the JAM base: it was posted here, under an id that the JAM base has.
+fn is_written_there(jam: JamBase<'_>, message: &Filed) -> bool {
     match message.echo.msgid() {
         Some(id) => message.sender.is_none() && has_id(jam.headers, jam.index, id),
         None => false,
     }
-}
-
-fn add_message<'a, W: Sink>(
-    alloc: Global,
-    adding: &mut Adding,
-    end: JamEnd,
-    i: usize,
-    message: &Filed,
-    scanned: bool,
-    texts: &mut W,
-) -> Result<(), JamExportError<'a>>
-    ensures added { (start : Option (List ℕ)) (added : Added) → HasAdded adding.old start (W.contents texts.old) added
-        → OnOk result (HasAdded adding.new start (W.contents texts.new) (with_message scanned end i message.now added)) }
-    ensures begun { (start : Option (List ℕ)) (added : Added) → HasAdded adding.old start (W.contents texts.old) added
-        → OnErr result (WritesFront (with_message scanned end i message.now added).texts start (W.contents texts.new)) }
-    ensures fault { IfErr result (IsUnadded (W.failures texts.old) (W.failures texts.new)) }
-    ensures ok { OnOk result (W.failures texts.new ≡ W.failures texts.old) }
-{
-    push_message(alloc, adding, end, i, message, scanned)?;
-    send(texts, &adding.jam.texts, &mut 0)?;
-    Ok(())
 }
 
 fn push_message(
@@ -261,13 +217,8 @@ fn push_message(
     i: usize,
     message: &Filed,
     scanned: bool,
-) -> Result<(), AllocError>
-    ensures added { (before : List ℕ) → adding.old.sent ≡ length before
-        → OnOk result (added_in adding.new (before ++ body_of message.now) ≡ with_message scanned end i message.now (added_in adding.old before)) }
-    ensures sent { OnOk result (adding.new.sent ≡ adding.old.sent + length (body_of message.now)) }
-    ensures text { OnOk result (adding.new.jam.texts.items ≡ body_of message.now) }
-{
-    let number = number_behind(end.number, adding.messages.len())?;
+) -> Result<(), AllocError> {
+    let number = place_behind(end.number, adding.messages.len() as u64)?;
     let place = place_behind(end.texts, adding.sent)?;
     let jam = &mut adding.jam;
     jam.texts.clear();
@@ -278,15 +229,7 @@ fn push_message(
     Ok(())
 }
 
-fn number_behind(first: u32, count: usize) -> Result<u32, AllocError>
-    ensures { IfOk result (λ number. number ≡ first + count) }
-{
-    place_behind(first, count as u64)
-}
-
-fn place_behind(begin: u32, count: u64) -> Result<u32, AllocError>
-    ensures { IfOk result (λ place. place ≡ begin + count) }
-{
+fn place_behind(begin: u32, count: u64) -> Result<u32, AllocError> {
     let count = u32::try_from(count).map_err(|_| AllocError)?;
     begin.checked_add(count).ok_or(AllocError)
 }

@@ -1,3 +1,5 @@
+//! Why messages were not added to a JAM base.
+
 use cmd_status::Fault;
 use disk_io::Failure;
 use std::alloc::AllocError;

@@ -1,7 +1,7 @@
 //! The names of stored messages in a folder.
-ghost use Rattle.std.specs.Prelude.{◌≡◌, ◌-◌, IfOk};
+ghost use Rattle.std.specs.Prelude.{◌≡◌};
 ghost use Rattle.echo_addr.specs.Digits.{number_within};
-ghost use Rattle.cmd_numbered.specs.Names.{ends_in_msg, front_of_name, is_left, name_of, number_of_name};
+ghost use Rattle.cmd_numbered.specs.Names.{ends_in_msg, front_of_name, is_left, number_of_name};
 
 use echo_addr::number;
 use echo_charset::written;
@@ -54,9 +54,7 @@ pub fn is_left(name: &[u8]) -> bool
     &name[front..] == BESIDE && stored_number(&name[..front]).is_some()
 }
 
-pub(crate) fn file_name(alloc: Global, number: u128) -> Result<Vec<u8>, AllocError>
-    ensures { IfOk result (λ name. name.items ≡ name_of number) }
-{
+pub(crate) fn file_name(alloc: Global, number: u128) -> Result<Vec<u8>, AllocError> {
     let mut name = Vec::new(alloc);
     written(write!(name, "{number}.msg"))?;
     Ok(name)

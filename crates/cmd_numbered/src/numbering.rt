@@ -1,9 +1,8 @@
 //! Which messages become files, and under which numbers.
-ghost use Rattle.std.specs.Prelude.{◌≡◌, ◌≤◌, ◌<◌, ◌∷◌, ◌+◌, ◌&&◌, [], IfErr, IfOk, OnErr, OnOk, length, option_copied, slice_get};
+ghost use Rattle.std.specs.Prelude.{◌≡◌, ◌≤◌, ◌<◌, [], ℕ, List, IfErr, IfOk, OnErr, OnOk};
 ghost use Rattle.base_file.specs.Base.{Base};
-ghost use Rattle.{base_folder.specs.{Fetching.IsUnread, Source.{AreLegible, LooksAt, ReadsLegibly}}, echo_stored.specs.StoredMessage.stored_bytes};
-ghost use Rattle.cmd_numbered.specs.Numbered.{IsExport, IsMade, IsMadeFrom, IsUnexported, IsUnmade, before_numbers, behind_numbers, file_at, file_of, first_number, is_exported, is_last, is_purged, is_same_stored, resumed};
-ghost use Rattle.cmd_numbered.specs.{Folders.{Gets, IsRefused}, Reading.AnswersReading};
+ghost use Rattle.base_folder.specs.{Fetching.IsUnread, Source.{AreLegible, LooksAt, ReadsLegibly}};
+ghost use Rattle.cmd_numbered.specs.{Folders.{Gets, IsRefused}, Numbered.{HasMade, IsStopped, IsUnmade}};
 
 use crate::folder::{LastFile, MessageFile, MessageFolder};
 use crate::names::file_name;
@@ -42,8 +41,11 @@ pub fn export_files<'a, M: MessageSource, F: MessageFolder>(
     folder: &mut F,
 ) -> Result<Exported<'a>, Fault<'a>>
     requires { (M.state messages.old).is_ready }
-    ensures files { (M.state messages.new).is_honest → (base : Base) → (M.state messages.old).holds base
-        → AnswersReading (IsExport area.now first last.entry.number (option_copied last.entry.bytes) base (IsRefused F.refuses folder.new) path.now (M.state messages.old).failures (M.state messages.new).failures (F.made folder.old) (F.made folder.new)) path.now (M.state messages.old).failures (M.state messages.new).failures result }
+    ensures files { IfOk result (λ exported. HasMade (F.made folder.old) (F.made folder.new) exported.made) }
+    ensures stop { (M.state messages.new).is_honest → (base : Base) → (M.state messages.old).holds base
+        → IfOk result (λ exported. IsStopped (IsRefused F.refuses folder.new) path.now (M.state messages.old).failures (M.state messages.new).failures exported.stop) }
+    ensures fault { (M.state messages.new).is_honest → (base : Base) → (M.state messages.old).holds base
+        → IfErr result (IsUnread path.now (M.state messages.old).failures (M.state messages.new).failures) }
     ensures none { OnErr result (Gets (F.made folder.old) (F.made folder.new) []) }
     ensures whole { (M.state messages.new).is_honest → OnOk result (AreLegible (M.state messages.old)) }
 {
@@ -53,15 +55,10 @@ pub fn export_files<'a, M: MessageSource, F: MessageFolder>(
         area: &area,
         first: from,
         cursor: messages.cursor(),
-        number: first_number(last.number),
+        // Tossers keep their progress in the file of number 1.
+        number: u64::from(last.number.max(1)) + 1,
     };
     Ok(make_files(alloc, wanted, path, messages, folder))
-}
-
-fn first_number(greatest: u32) -> u64
-    ensures { result ≡ first_number greatest }
-{
-    u64::from(greatest.max(1)) + 1
 }
 
 fn resumed<'a, M: MessageSource>(
@@ -73,8 +70,6 @@ fn resumed<'a, M: MessageSource>(
     messages: &mut M,
 ) -> Result<u64, Fault<'a>>
     requires { (M.state messages.old).is_ready }
-    ensures from { (M.state messages.new).is_honest → (base : Base) → (M.state messages.old).holds base
-        → IfOk result (λ from. from ≡ resumed area.now first base.cursor (option_copied last.entry) base.messages (length base.messages)) }
     ensures fault { (M.state messages.new).is_honest → (base : Base) → (M.state messages.old).holds base
         → IfErr result (IsUnread path.now (M.state messages.old).failures (M.state messages.new).failures) }
     ensures whole { (M.state messages.new).is_honest → OnOk result (AreLegible (M.state messages.old)) }
@@ -93,6 +88,7 @@ fn resumed<'a, M: MessageSource>(
     Ok(from)
 }
 
+// Readers change only the numbers of a file.
 fn is_last(
     alloc: Global,
     area: &[u8],
@@ -101,67 +97,34 @@ fn is_last(
     last: Option<&[u8]>,
     i: usize,
     message: Option<&Filed>,
-) -> Result<bool, AllocError>
-    ensures { IfOk result (λ is. is ≡ is_last area.now first cursor (option_copied last.entry) i (option_copied message.entry)) }
-{
-    let Some(last) = last else {
-        return Ok(false);
-    };
-    let Some(message) = message else {
+) -> Result<bool, AllocError> {
+    let (Some(last), Some(message)) = (last, message) else {
         return Ok(false);
     };
     if !is_exported(area, first, cursor, i, message) {
         return Ok(false);
     }
     let stored = stored_file(alloc, message, i < cursor)?;
-    Ok(is_same_stored(last, &stored))
+    Ok(last.get(..164) == stored.get(..164) && last.get(190..) == stored.get(190..))
 }
 
-pub(crate) fn is_exported(area: &[u8], first: u64, cursor: usize, i: usize, message: &Filed) -> bool
-    ensures { result ≡ is_exported area.now first cursor i message.now }
-{
+/// Whether the message of this number belongs to the area, is not before `first`, and still has its text.
+pub(crate) fn is_exported(
+    area: &[u8],
+    first: u64,
+    cursor: usize,
+    i: usize,
+    message: &Filed,
+) -> bool {
     let tag = message.echo.tag.as_slice();
-    first <= i as u64 && tag == area && (cursor <= i || !is_purged(message))
+    let is_purged = message.echo.msgid().is_some() && is_stub(message);
+    first <= i as u64 && tag == area && (cursor <= i || !is_purged)
 }
 
-fn is_purged(message: &Filed) -> bool
-    ensures { result ≡ is_purged message.now }
-{
-    message.echo.msgid().is_some() && is_stub(message)
-}
-
-fn stored_file(alloc: Global, message: &Filed, scanned: bool) -> Result<Vec<u8>, AllocError>
-    ensures { IfOk result (λ bytes. bytes.items ≡ stored_bytes scanned message.now) }
-{
+fn stored_file(alloc: Global, message: &Filed, scanned: bool) -> Result<Vec<u8>, AllocError> {
     let mut stored = Vec::new(alloc);
     push_stored(alloc, &mut stored, message, scanned)?;
     Ok(stored)
-}
-
-fn is_same_stored(one: &[u8], other: &[u8]) -> bool
-    ensures { result ≡ is_same_stored one.now other.now }
-{
-    before_numbers(one) == before_numbers(other) && behind_numbers(one) == behind_numbers(other)
-}
-
-fn before_numbers(bytes: &[u8]) -> &[u8]
-    ensures { result.now ≡ before_numbers bytes.now }
-{
-    if bytes.len() < 164 {
-        bytes
-    } else {
-        &bytes[..164]
-    }
-}
-
-fn behind_numbers(bytes: &[u8]) -> &[u8]
-    ensures { result.now ≡ behind_numbers bytes.now }
-{
-    if bytes.len() < 190 {
-        &[]
-    } else {
-        &bytes[190..]
-    }
 }
 
 #[derive(Clone, Copy)]
@@ -172,6 +135,7 @@ struct Wanted<'a> {
     number: u64,
 }
 
+#[tactic(auto, using(crate::proofs::Gettings::more_made, crate::proofs::Gettings::no_more_made, crate::proofs::Gettings::none_made, crate::proofs::Gettings::unmade_since))]
 fn make_files<'a, M: MessageSource, F: MessageFolder>(
     alloc: Global,
     wanted: Wanted<'_>,
@@ -181,8 +145,9 @@ fn make_files<'a, M: MessageSource, F: MessageFolder>(
 ) -> Exported<'a>
     requires { (M.state messages.old).is_ready }
     ensures honest { (M.state messages.new).is_honest → (M.state messages.old).is_honest }
-    ensures made { (M.state messages.new).is_honest → (base : Base) → (M.state messages.old).holds base → wanted.entry.cursor ≡ base.cursor
-        → IsMadeFrom wanted.entry.area.now wanted.entry.first wanted.entry.number base (IsRefused F.refuses folder.new) path.now (M.state messages.old).failures (M.state messages.new).failures (F.made folder.old) (F.made folder.new) result }
+    ensures made { HasMade (F.made folder.old) (F.made folder.new) result.made }
+    ensures stop { (M.state messages.new).is_honest → (base : Base) → (M.state messages.old).holds base
+        → IsStopped (IsRefused F.refuses folder.new) path.now (M.state messages.old).failures (M.state messages.new).failures result.stop }
 {
     let count = messages.count();
     let mut made = 0;
@@ -205,6 +170,7 @@ fn make_files<'a, M: MessageSource, F: MessageFolder>(
     }
 }
 
+#[tactic(auto, using(crate::proofs::Gettings::none_made))]
 fn make_next<'a, M: MessageSource, F: MessageFolder>(
     alloc: Global,
     wanted: Wanted<'_>,
@@ -216,10 +182,9 @@ fn make_next<'a, M: MessageSource, F: MessageFolder>(
 ) -> Result<usize, ExportError<'a>>
     requires ready { (M.state messages.old).is_ready }
     requires within { i < (M.state messages.old).count }
-    ensures made { (M.state messages.new).is_honest → (base : Base) → (M.state messages.old).holds base
-        → IfOk result (IsMade (file_at wanted.entry.area.now wanted.entry.first wanted.entry.cursor (wanted.entry.number + made) i (slice_get base.messages i)) (F.made folder.old) (F.made folder.new)) }
+    ensures made { IfOk result (HasMade (F.made folder.old) (F.made folder.new)) }
     ensures fault { (M.state messages.new).is_honest → (base : Base) → (M.state messages.old).holds base
-        → IfErr result (IsUnexported (file_at wanted.entry.area.now wanted.entry.first wanted.entry.cursor (wanted.entry.number + made) i (slice_get base.messages i)) (IsRefused F.refuses folder.new) path.now (M.state messages.old).failures (M.state messages.new).failures) }
+        → IfErr result (IsUnmade (IsRefused F.refuses folder.new) path.now (M.state messages.old).failures (M.state messages.new).failures) }
     ensures none { OnErr result (Gets (F.made folder.old) (F.made folder.new) []) }
     ensures few { IfOk result (λ more. more ≤ 1) }
     ensures read { ReadsLegibly (M.state messages.old) (M.state messages.new) i result }
@@ -231,33 +196,29 @@ fn make_next<'a, M: MessageSource, F: MessageFolder>(
     }
     let number = u128::from(wanted.number) + made as u128;
     match messages.at_hand() {
-        Some(message) if is_wanted(wanted, i, message) => export_one(
-            alloc, wanted, number, i, message, folder,
-        ),
+        Some(message) if is_exported(wanted.area, wanted.first, wanted.cursor, i, message) => {
+            let scanned = i < wanted.cursor;
+            export_one(alloc, number, i, message, scanned, folder)
+        }
         _ => Ok(0),
     }
 }
 
-fn is_wanted(wanted: Wanted<'_>, i: usize, message: &Filed) -> bool
-    ensures { result ≡ is_exported wanted.entry.area.now wanted.entry.first wanted.entry.cursor i message.now }
-{
-    is_exported(wanted.area, wanted.first, wanted.cursor, i, message)
-}
-
+#[tactic(auto, using(crate::proofs::Gettings::one_made))]
 fn export_one<'a, F: MessageFolder>(
     alloc: Global,
-    wanted: Wanted<'_>,
     number: u128,
     i: usize,
     message: &Filed,
+    scanned: bool,
     folder: &mut F,
 ) -> Result<usize, ExportError<'a>>
-    ensures made { IfOk result (IsMade (file_of wanted.entry.cursor number i message.now ∷ []) (F.made folder.old) (F.made folder.new)) }
+    ensures made { IfOk result (HasMade (F.made folder.old) (F.made folder.new)) }
     ensures few { IfOk result (λ more. more ≤ 1) }
-    ensures fault { IfErr result (IsUnmade (IsRefused F.refuses folder.new)) }
+    ensures fault { (path : List ℕ) (before now : ℕ) → IfErr result (IsUnmade (IsRefused F.refuses folder.new) path before now) }
     ensures none { OnErr result (Gets (F.made folder.old) (F.made folder.new) []) }
 {
-    let file = match file_of(alloc, wanted.cursor, number, i, message) {
+    let file = match new_file(alloc, number, i, message, scanned) {
         Ok(file) => file,
         Err(_) => return Err(ExportError::Message(Fault::OutOfMemory)),
     };
@@ -267,17 +228,15 @@ fn export_one<'a, F: MessageFolder>(
     }
 }
 
-fn file_of(
+fn new_file(
     alloc: Global,
-    cursor: usize,
     number: u128,
     i: usize,
     message: &Filed,
-) -> Result<MessageFile, AllocError>
-    ensures { IfOk result (λ file. file ≡ file_of cursor number i message.now) }
-{
+    scanned: bool,
+) -> Result<MessageFile, AllocError> {
     let name = Items::new(file_name(alloc, number)?);
-    let bytes = Items::new(stored_file(alloc, message, i < cursor)?);
+    let bytes = Items::new(stored_file(alloc, message, scanned)?);
     Ok(MessageFile {
         name,
         message: i,

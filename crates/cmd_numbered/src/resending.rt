@@ -1,3 +1,5 @@
+//! A packet that is made again.
+
 ghost use Rattle.std.specs.Prelude.{◌≡◌, ◌++◌, IfErr, IfOk, OnOk, option_copied};
 ghost use Rattle.{base_file.specs.Base.Base, base_folder.specs.Fetching.IsUnread};
 ghost use Rattle.{model_steps.specs.Resending.resent, cmd_numbered.specs.Resending.{AreLegibleToCursor, IsMadeOf, ResendsReading, copies_at}};
@@ -8,7 +10,7 @@ use echo_addr::Items;
 use echo_filed::Filed;
 use echo_links::LinkFile;
 use echo_packet::PackedCopy;
-use echo_toss::{Resend, packet_header, push_resent};
+use echo_steps::{Resend, packet_header, push_resent};
 use model_steps::{Packet, ScanFault, is_stamp};
 use std::alloc::{AllocError, Global};
 

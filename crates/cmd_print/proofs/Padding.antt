@@ -8,7 +8,3 @@ two_padded n = simp (append-nil, sub-zero)
 pub four_padded : (n : ℕ) → padded_integral (format_spec 32 0 4 4 (2 ^ 64 - 1)) false [] (decimal n) ≡ zero_padded 4 n
 unfolding padded_integral zero_padded char_count
 four_padded n = simp (append-nil, sub-zero)
-
-pub five_padded : (n : ℕ) → padded_integral (format_spec 32 0 4 5 (2 ^ 64 - 1)) false [] (decimal n) ≡ zero_padded 5 n
-unfolding padded_integral zero_padded char_count
-five_padded n = simp (append-nil, sub-zero)

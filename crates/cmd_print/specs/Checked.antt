@@ -2,8 +2,8 @@
 use Rattle.std.specs.{Prelude.{◌≡◌, ℕ, ◌↔◌, true, AllPairs, Contains, List, [], ◌++◌, codes, decimal, Option, Some, None}, List.flat_map}
 use Rattle.{echo_addr.specs.{declared.address.Address.Address, Address.address_text}, echo_charset.specs.Words.printed_word, echo_links.specs.Links.LinkFile}
 use Rattle.{echo_filed.specs.Sets.address_before, echo_nodelist.specs.declared.line.Line.Line, model_run.specs.Tidy.Carries}
-use Rattle.echo_net.specs.declared.{presence.Absence.{Absence, TheVariants.{Missing, Down}}, verdict.Verdict.{Verdict, TheVariants.{Yes, No}}}
-use Rattle.echo_net.specs.{Absent.IsAbsent, Printed.fault_text}
+use Rattle.echo_verdict.specs.declared.{presence.Absence.{Absence, TheVariants.{Missing, Down}}, verdict.Verdict.{Verdict, TheVariants.{Yes, No}}}
+use Rattle.echo_verdict.specs.{Absent.IsAbsent, Printed.fault_text}
 
 -- The line of an area in order, with its numbers of systems and links; the tag is printed as a word.
 abbrev pub yes_text : List ℕ → ℕ → ℕ → List ℕ

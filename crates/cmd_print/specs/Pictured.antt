@@ -1,9 +1,9 @@
 -- The lines of `picture`, in the language DOT of Graphviz.
 use Rattle.std.specs.{Prelude.{ℕ, ◌==◌, ◌&&◌, ◌||◌, Bool, true, false, if◌then◌else◌, List, [], ◌∷◌, ◌++◌, codes, decimal, filter, map}, List.flat_map}
 use Rattle.{echo_addr.specs.Address.address_text, echo_charset.specs.Words.printed_word, echo_links.specs.Links.same_address}
-use Rattle.echo_net.specs.declared.drawing.{Crossing.Crossing, DrawnLink.DrawnLink, DrawnSystem.DrawnSystem, Drawing.Drawing, Mark.Mark}
-use Rattle.echo_net.specs.declared.drawing.{Mark.TheVariants.{Plain, Named, OnLoop}, Sides.{Sides, TheVariants.{Both, First, Second}}}
-use Rattle.{echo_net.specs.declared.verdict.Verdict.Verdict, cmd_print.specs.Checked.verdict_text}
+use Rattle.echo_verdict.specs.declared.drawing.{Crossing.Crossing, DrawnLink.DrawnLink, DrawnSystem.DrawnSystem, Drawing.Drawing, Mark.Mark}
+use Rattle.echo_verdict.specs.declared.drawing.{Mark.TheVariants.{Plain, Named, OnLoop}, Sides.{Sides, TheVariants.{Both, First, Second}}}
+use Rattle.{echo_verdict.specs.declared.verdict.Verdict.Verdict, cmd_print.specs.Checked.verdict_text}
 
 -- A byte between double quotes: these and the backslash after a backslash.
 abbrev pub quoted_byte : ℕ → List ℕ

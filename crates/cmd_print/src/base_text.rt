@@ -1,13 +1,11 @@
 //! The lines of the messages of a base.
-ghost use Rattle.std.specs.{Prelude.{◌≡◌, ◌++◌, codes, decimal, OnOk}, List.flat_map};
+ghost use Rattle.std.specs.{Prelude.{◌≡◌, ◌++◌, codes, OnOk}, List.flat_map};
 ghost use Rattle.echo_charset.specs.Escaped.{escaped_line};
-ghost use Rattle.cmd_print.specs.BaseListed.{echo_text, fields_text, head_text, is_purged, mark_text, message_text, origin_text, total_text};
 ghost use Rattle.echo_text.specs.Lines as text_lines;
 
-use echo_addr::Address;
 use echo_charset::{push_escaped, written};
 use echo_filed::{Filed, is_stub};
-use echo_text::{Echo, Lines, split_line};
+use echo_text::split_line;
 use std::alloc::AllocError;
 use std::io::Write;
 
@@ -17,12 +15,16 @@ pub(crate) fn push_message(
     cursor: usize,
     i: usize,
     message: &Filed,
-) -> Result<(), AllocError>
-    ensures { OnOk result (lines.new.items ≡ lines.old.items ++ message_text cursor i message.now) }
-{
+) -> Result<(), AllocError> {
     push_head(lines, cursor, i, message)?;
-    push_fields(lines, message)?;
-    push_echo(lines, &message.echo)
+    push_escaped(lines, b"date", &message.date)?;
+    push_escaped(lines, b"to", message.to_name.as_slice())?;
+    push_escaped(lines, b"from", message.from_name.as_slice())?;
+    push_escaped(lines, b"subject", message.subject.as_slice())?;
+    push_lines(lines, message.echo.kept.as_text())?;
+    let seen = message.echo.seen.len();
+    let path = message.echo.path.len();
+    written(writeln!(lines, "seen {seen} path {path}"))
 }
 
 /// Adds the last line of a base: how many messages it has, and how many of them wait.
@@ -30,9 +32,7 @@ pub fn push_base_total(
     lines: &mut Vec<u8>,
     messages: usize,
     waiting: usize,
-) -> Result<(), AllocError>
-    ensures { OnOk result (lines.new.items ≡ lines.old.items ++ total_text messages waiting) }
-{
+) -> Result<(), AllocError> {
     written(writeln!(lines, "end {messages} messages, {waiting} waiting"))
 }
 
@@ -41,73 +41,39 @@ fn push_head(
     cursor: usize,
     i: usize,
     message: &Filed,
-) -> Result<(), AllocError>
-    ensures { OnOk result (lines.new.items ≡ lines.old.items ++ head_text cursor i message.now) }
-{
-    let tag = &message.echo.tag;
-    push_number(lines, i)?;
-    lines.extend_from_slice(tag.as_slice())?;
-    push_sender(lines, message.sender)?;
-    lines.extend_from_slice(mark(i >= cursor, is_purged(message)))
-}
-
-fn push_number(lines: &mut Vec<u8>, i: usize) -> Result<(), AllocError>
-    ensures { OnOk result (lines.new.items ≡ lines.old.items ++ (codes "message " ++ (decimal i ++ codes " area "))) }
-{
-    written(write!(lines, "message {i} area "))
-}
-
-fn push_sender(lines: &mut Vec<u8>, sender: Option<Address>) -> Result<(), AllocError>
-    ensures { OnOk result (lines.new.items ≡ lines.old.items ++ origin_text sender) }
-{
-    match sender {
-        None => lines.extend_from_slice(b" posted"),
-        Some(address) => written(write!(lines, " from {address}")),
+) -> Result<(), AllocError> {
+    written(write!(lines, "message {i} area "))?;
+    lines.extend_from_slice(message.echo.tag.as_slice())?;
+    match message.sender {
+        None => lines.extend_from_slice(b" posted")?,
+        Some(address) => written(write!(lines, " from {address}"))?,
     }
+    let end: &[u8] = match mark_of(cursor, i, message) {
+        Some(Mark::Waiting) => b" waiting\n",
+        Some(Mark::Purged) => b" purged\n",
+        None => b"\n",
+    };
+    lines.extend_from_slice(end)
 }
 
-fn mark(waits: bool, short: bool) -> &'static [u8]
-    ensures { result.now ≡ mark_text waits short }
-{
-    if waits {
-        b" waiting\n"
-    } else if short {
-        b" purged\n"
+/// What a list says of a message: it waits for a scan, or only its id is left.
+#[derive(Clone, Copy)]
+pub(crate) enum Mark {
+    Waiting,
+    Purged,
+}
+
+pub(crate) fn mark_of(cursor: usize, i: usize, message: &Filed) -> Option<Mark> {
+    if i >= cursor {
+        Some(Mark::Waiting)
+    } else if message.echo.msgid().is_some() && is_stub(message) {
+        Some(Mark::Purged)
     } else {
-        b"\n"
+        None
     }
 }
 
-pub(crate) fn is_purged(message: &Filed) -> bool
-    ensures { result ≡ is_purged message.now }
-{
-    message.echo.msgid().is_some() && is_stub(message)
-}
-
-fn push_fields(lines: &mut Vec<u8>, message: &Filed) -> Result<(), AllocError>
-    ensures { OnOk result (lines.new.items ≡ lines.old.items ++ fields_text message.now) }
-{
-    push_escaped(lines, b"date", &message.date)?;
-    push_escaped(lines, b"to", message.to_name.as_slice())?;
-    push_escaped(lines, b"from", message.from_name.as_slice())?;
-    push_escaped(lines, b"subject", message.subject.as_slice())
-}
-
-fn push_echo(lines: &mut Vec<u8>, echo: &Echo) -> Result<(), AllocError>
-    ensures { OnOk result (lines.new.items ≡ lines.old.items ++ echo_text echo.now) }
-{
-    push_kept(lines, &echo.kept)?;
-    let seen = echo.seen.len();
-    let path = echo.path.len();
-    written(writeln!(lines, "seen {seen} path {path}"))
-}
-
-fn push_kept(lines: &mut Vec<u8>, kept: &Lines) -> Result<(), AllocError>
-    ensures { OnOk result (lines.new.items ≡ lines.old.items ++ flat_map (λ line. escaped_line (codes "line") line) kept.now) }
-{
-    push_lines(lines, kept.as_text())
-}
-
+/// Adds a line for each line of a text.
 pub(crate) fn push_lines(lines: &mut Vec<u8>, text: &[u8]) -> Result<(), AllocError>
     ensures { OnOk result (lines.new.items ≡ lines.old.items ++ flat_map (λ line. escaped_line (codes "line") line) (text_lines.lines text.now)) }
 {

@@ -1,6 +1,6 @@
-//! What the commands of `echonet` print, as lines that are added to a text. A call that ends well added just the lines
-//! that the definitions in specs/ give, at the end; one that lacked memory may have added a part. Begin with
-//! `show_text` (a packet) and `said` (the parts of a text).
+//! What the commands of `echonet` print, as lines that are added to a text. Of the lines of `show` and `check` a call that
+//! ends well added just those that the definitions in specs/ give, at the end; other lines are tested. One that lacked
+//! memory may have added a part. Begin with `show_text` (a packet) and `said` (the parts of a text).
 #![tactic(auto)]
 
 mod base_text;

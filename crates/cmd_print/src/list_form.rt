@@ -1,11 +1,10 @@
-ghost use Rattle.std.specs.Prelude.{◌≡◌, ◌++◌, decimal, IfOk, OnOk};
-ghost use Rattle.cmd_print.specs.BaseListed.{listed_text, short_fields, short_mark, short_part, short_parts, short_text};
+//! The forms of a list of messages.
 
-use crate::base_text::{is_purged, push_message};
+use crate::base_text::{Mark, mark_of, push_message};
 use echo_charset::{push_escaped, written};
 use echo_export::without_zeros;
 use echo_filed::Filed;
-use std::alloc::{AllocError, Global};
+use std::alloc::AllocError;
 use std::io::Write;
 
 /// How a message of a base is listed: by all its lines, or by one.
@@ -22,9 +21,7 @@ pub fn push_listed(
     cursor: usize,
     i: usize,
     message: &Filed,
-) -> Result<(), AllocError>
-    ensures { OnOk result (lines.new.items ≡ lines.old.items ++ listed_text form cursor i message.now) }
-{
+) -> Result<(), AllocError> {
     match form {
         ListForm::Whole => push_message(lines, cursor, i, message),
         ListForm::Short => push_short(lines, cursor, i, message),
@@ -36,62 +33,26 @@ fn push_short(
     cursor: usize,
     i: usize,
     message: &Filed,
-) -> Result<(), AllocError>
-    ensures { OnOk result (lines.new.items ≡ lines.old.items ++ short_text cursor i message.now) }
-{
+) -> Result<(), AllocError> {
     let alloc = *lines.allocator();
-    let number = number_word(alloc, i)?;
+    let mut number = Vec::new(alloc);
+    written(write!(number, "{i}"))?;
     let mut parts = Vec::new(alloc);
-    push_parts(&mut parts, cursor, i, message)?;
+    push_part(&mut parts, without_zeros(&message.date))?;
+    push_part(&mut parts, message.from_name.as_slice())?;
+    push_part(&mut parts, message.to_name.as_slice())?;
+    push_part(&mut parts, message.subject.as_slice())?;
+    parts.extend_from_slice(message.echo.tag.as_slice())?;
+    let end: &[u8] = match mark_of(cursor, i, message) {
+        Some(Mark::Waiting) => b" | waiting",
+        Some(Mark::Purged) => b" | purged",
+        None => b"",
+    };
+    parts.extend_from_slice(end)?;
     push_escaped(lines, &number, &parts)
 }
 
-fn number_word(alloc: Global, i: usize) -> Result<Vec<u8>, AllocError>
-    ensures { IfOk result (λ word. word.items ≡ decimal i) }
-{
-    let mut word = Vec::new(alloc);
-    written(write!(word, "{i}"))?;
-    Ok(word)
-}
-
-fn push_parts(
-    parts: &mut Vec<u8>,
-    cursor: usize,
-    i: usize,
-    message: &Filed,
-) -> Result<(), AllocError>
-    ensures { OnOk result (parts.new.items ≡ parts.old.items ++ short_parts cursor i message.now) }
-{
-    let tag = &message.echo.tag;
-    push_short_fields(parts, message)?;
-    parts.extend_from_slice(tag.as_slice())?;
-    parts.extend_from_slice(short_mark(i >= cursor, is_purged(message)))
-}
-
-fn push_short_fields(parts: &mut Vec<u8>, message: &Filed) -> Result<(), AllocError>
-    ensures { OnOk result (parts.new.items ≡ parts.old.items ++ short_fields message.now) }
-{
-    push_part(parts, without_zeros(&message.date))?;
-    push_part(parts, message.from_name.as_slice())?;
-    push_part(parts, message.to_name.as_slice())?;
-    push_part(parts, message.subject.as_slice())
-}
-
-fn push_part(parts: &mut Vec<u8>, part: &[u8]) -> Result<(), AllocError>
-    ensures { OnOk result (parts.new.items ≡ parts.old.items ++ short_part part.now) }
-{
+fn push_part(parts: &mut Vec<u8>, part: &[u8]) -> Result<(), AllocError> {
     parts.extend_from_slice(part)?;
     parts.extend_from_slice(b" | ")
-}
-
-fn short_mark(waits: bool, short: bool) -> &'static [u8]
-    ensures { result.now ≡ short_mark waits short }
-{
-    if waits {
-        b" | waiting"
-    } else if short {
-        b" | purged"
-    } else {
-        b""
-    }
 }

@@ -1,9 +1,11 @@
+//! The drawing of `picture` in the language DOT.
+
 ghost use Rattle.std.specs.{Prelude.◌≡◌, Prelude.◌++◌, Prelude.IfOk, Prelude.OnOk, List.flat_map};
 ghost use Rattle.cmd_print.specs.Pictured.{carrier_marks, ends_text, head_lines, is_at, later_step, link_line, loop_marks, picture_lines, quoted, quoted_byte, side_marks, steps_at, steps_label, system_line, system_marks};
 
 use crate::verdict_text::push_verdict_text;
 use echo_charset::{push_word, written};
-use echo_net::{Crossing, Drawing, DrawnLink, DrawnSystem, Mark, Sides, Verdict};
+use echo_verdict::{Crossing, Drawing, DrawnLink, DrawnSystem, Mark, Sides, Verdict};
 use std::alloc::{AllocError, Global};
 use std::io::Write;
 

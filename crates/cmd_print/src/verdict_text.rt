@@ -1,11 +1,13 @@
+//! The lines of a verdict.
+
 ghost use Rattle.std.specs.{Prelude.◌≡◌, Prelude.◌++◌, Prelude.OnOk, Prelude.option_copied, List.flat_map};
 ghost use Rattle.cmd_print.specs.{Checked.AbsencesShown, Checked.absence_line, Checked.absence_word, Checked.verdict_line, Checked.verdict_text, Checked.yes_text, Pushed.Pushes};
 
 use echo_addr::Address;
 use echo_charset::{push_word, written};
 use echo_links::LinkFile;
-use echo_net::{Absence, Verdict, listed};
 use echo_nodelist::Nodelist;
+use echo_verdict::{Absence, Verdict, listed};
 use std::alloc::{AllocError, Global};
 use std::io::Write;
 

@@ -3,7 +3,7 @@ use Rattle.std.proofs.Common.{◌≡◌, ℕ, suc, ◌+◌, Bool, true, false, L
 use Rattle.std.{proofs.lemmas.{Bool.cases_Bool, List.Sorted.list_any-IsPermutation}, specs.{Prelude.{◌&&◌, ◌||◌, not, bytes_eq, filter}, Io.KnownBytes.Appends}}
 use Rattle.{std.specs.List.{AllByRecursion, list_any}, base_file.specs.Base.Base, echo_addr.specs.declared.address.Address.Address}
 use Rattle.{echo_charset.specs.Escaped.escaped, echo_filed.specs.Filed.Filed, echo_links.specs.Links.LinkFile, echo_packet.specs.Header.AreBytes}
-use Rattle.{echo_packet.specs.Packet.packet_bytes, echo_text.specs.Echo.msgid_of, echo_toss.specs.declared.counting.CountedPacket.CountedPacket}
+use Rattle.{echo_packet.specs.Packet.packet_bytes, echo_text.specs.Echo.msgid_of, echo_steps.specs.declared.counting.CountedPacket.CountedPacket}
 use Rattle.{model_graph.specs.Walk.Among, model_run.proofs.Lists.{filter-no, filter-yes}, model_steps.specs.Resending.is_whole_in}
 use Rattle.{model_steps.specs.{Scanning.{copy_to, header_to}, declared.stamp.Stamp.Stamp}, cmd_repair.specs.IdList.{IsIdList, ListsIds, id_line, id_words}}
 use Rattle.cmd_repair.specs.{Ids.IsId, Repair.{SendsPacket, is_held, is_named, is_sent}, Rest.{HaveByteIds, SendsRest}}

@@ -4,8 +4,8 @@ use Rattle.std.proofs.lemmas.{Bool.cases_lt, List.{drop_all, drop-append-le, len
 use Rattle.{std.{proofs.KnownBytes.Appends-trans, specs.{Io.KnownBytes.Appends, Prelude.{filter, slice_get}}}, base_file.specs.Base.Base}
 use Rattle.{base_folder.{specs.{Fetching.IsUnread, Source.SourceState}, proofs.Fetchings.unread_since}, disk_io.specs.Device.Failed}
 use Rattle.{echo_addr.specs.declared.address.Address.Address, echo_filed.specs.Filed.Filed, echo_links.specs.Links.{LinkFile, upper}}
-use Rattle.{echo_packet.specs.{Header.{header_bytes, word}, Message.{Message, messages_bytes}}, echo_toss.proofs.Counts.messages_append}
-use Rattle.{echo_toss.specs.declared.counting.CountedPacket.CountedPacket, model_steps.proofs.Encoding.{header_size, packet_size}}
+use Rattle.{echo_packet.specs.{Header.{header_bytes, word}, Message.{Message, messages_bytes}}, echo_steps.proofs.Counts.messages_append}
+use Rattle.{echo_steps.specs.declared.counting.CountedPacket.CountedPacket, model_steps.proofs.Encoding.{header_size, packet_size}}
 use Rattle.{model_steps.specs.{Scanning.{copy_to, header_to}, Stamps.is_stamp, declared.stamp.Stamp.Stamp}, cmd_status.specs.Lines.PassesOn}
 use Rattle.{cmd_status.{specs.declared.fault.Fault.Fault, proofs.Lines.{none_added, passed_more, sent_after}}, cmd_repair.proofs.Gatherings.one_next}
 use Rattle.cmd_repair.specs.declared.send_fault.SendFault.{SendFault, TheVariants.{Device, Messages}}

@@ -4,7 +4,7 @@ use Rattle.std.specs.{List.list_any, Io.KnownBytes.Appends}
 use Rattle.{base_file.specs.Base.Base, base_folder.specs.{Fetching.IsUnread, Source.SourceState}}
 use Rattle.{disk_io.specs.Device.Failed, echo_addr.specs.{declared.address.Address.Address, Address.address_text}, echo_charset.specs.Escaped.escaped}
 use Rattle.{echo_filed.specs.Filed.Filed, echo_links.specs.Links.LinkFile, echo_packet.specs.{Message.{Message, messages_bytes}, Packet.packet_bytes}}
-use Rattle.{echo_text.specs.Echo.msgid_of, echo_toss.specs.declared.counting.CountedPacket.CountedPacket}
+use Rattle.{echo_text.specs.Echo.msgid_of, echo_steps.specs.declared.counting.CountedPacket.CountedPacket}
 use Rattle.model_steps.specs.{declared.{fault.ScanFault.TheVariants.BadStamp, packet.Packet.Packet, stamp.Stamp.Stamp}, Resending.is_whole_in}
 use Rattle.{model_steps.specs.{Scanning.{copy_to, header_to}, Stamps.is_stamp}, cmd_status.specs.{declared.fault.Fault.TheVariants.Scan, Ended.IsOutOfMemory}}
 use Rattle.cmd_repair.specs.declared.send_fault.SendFault.{SendFault, TheVariants.{Messages, Device}}

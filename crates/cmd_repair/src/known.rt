@@ -1,3 +1,5 @@
+//! The ids that a link already has, as a list names them.
+
 ghost use Rattle.std.specs.{Prelude.{◌≡◌, List, ℕ, bytes_eq, map}, List.list_any};
 
 use std::marker::Model;

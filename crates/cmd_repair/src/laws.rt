@@ -2,7 +2,7 @@
 ghost use Rattle.std.specs.Prelude.{◌≡◌, ◌≤◌, ◌↔◌, List, [], None, Option, Some, length, true, ℕ};
 ghost use Rattle.base_file.specs.Base.{Base, IsBase, is_known};
 ghost use Rattle.{cmd_status.specs.declared.status.Status.Status, echo_addr.specs.declared.address.Address.Address, cmd_repair.specs.Rest.{HaveByteIds, SendsRest}};
-ghost use Rattle.{echo_filed.specs.declared.key.Key.TheVariants.ById, echo_links.specs.Links.LinkFile, echo_toss.specs.declared.counting.CountedPacket.CountedPacket};
+ghost use Rattle.{echo_filed.specs.declared.key.Key.TheVariants.ById, echo_links.specs.Links.LinkFile, echo_steps.specs.declared.counting.CountedPacket.CountedPacket};
 ghost use Rattle.{echo_text.specs.Lines.is_tag, model_run.specs.Repair.is_named, model_steps.specs.declared.stamp.Stamp.Stamp};
 ghost use Rattle.cmd_repair.specs.{IdList.{IsIdList, IsPrintedList, ListsIds, wrong_line}, Ids.{IsWordOfId, is_id_word}, Words.most_messages};
 ghost use Rattle.cmd_repair.specs.{declared.reading.Stage.TheVariants.Start, IdsListed.{AreIdsListed, area_ids, area_messages}, Repair.SendsPacket};

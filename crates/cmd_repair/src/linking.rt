@@ -1,3 +1,5 @@
+//! Whether an address is a link of an area, for the commands that send again.
+
 ghost use Rattle.std.specs.Prelude.{◌≡◌, true, false, MatchResult};
 ghost use Rattle.{echo_links.specs.Links.is_link, cmd_status.specs.declared.fault.Fault.TheVariants.NotLinked};
 

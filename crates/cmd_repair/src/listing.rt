@@ -1,3 +1,5 @@
+//! The list of `list --ids`.
+
 ghost use Rattle.std.specs.{Prelude.{◌≡◌, ◌++◌, OnErr, OnOk, IfErr, codes, length, map}, List.flat_map};
 ghost use Rattle.base_folder.specs.{Fetching.CannotRead, Source.AreLegible};
 ghost use Rattle.{cmd_status.specs.{Devices.output_of, Ended.{AnswersInPieces, Stops}, Lines.{PassesOn, WritesFront}}, echo_charset.specs.Escaped.escaped_line};

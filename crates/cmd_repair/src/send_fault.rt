@@ -1,3 +1,5 @@
+//! Why a packet of a repair was not made.
+
 use cmd_status::Fault;
 use disk_io::Failure;
 use std::alloc::AllocError;

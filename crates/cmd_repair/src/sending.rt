@@ -16,7 +16,7 @@ use echo_charset::written;
 use echo_filed::Filed;
 use echo_links::LinkFile;
 use echo_packet::{send_header, send_terminator};
-use echo_toss::{CountedPacket, Resend, is_resendable, packet_header, push_exported};
+use echo_steps::{CountedPacket, Resend, is_resendable, packet_header, push_exported};
 use model_steps::{ScanFault, is_stamp};
 use std::alloc::{AllocError, Global};
 use std::io::Write;

@@ -9,8 +9,4 @@ pub mod Answering
 pub mod Entries
 pub mod Saying
 pub mod OnePrinting
-pub mod Listings
-pub mod LinkLines
-pub mod Exportings
 pub mod Fetchings
-pub mod AreasCounted

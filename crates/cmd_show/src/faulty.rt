@@ -1,3 +1,5 @@
+//! A faulty line of a link file.
+
 ghost use Rattle.std.specs.Prelude.{◌≡◌, IfOk};
 
 use echo_addr::Items;

@@ -1,3 +1,5 @@
+//! A link file, judged as a whole.
+
 ghost use Rattle.std.specs.Prelude.{◌≡◌, false, IfOk, Some};
 ghost use Rattle.cmd_show.specs.{FaultyLines.{is_homeless, reported_lines}, Judging.{IsJudged, is_memory}};
 

@@ -1,6 +1,6 @@
-//! The commands of `echonet` that print the contents of files: functions from bytes to a sink for standard output. A
-//! command that ends well wrote exactly its lines. It refuses an input exactly if that has the fault, after the lines
-//! of the parts before it. Begin with `showing` (a packet); each module is named for its command.
+//! The commands of `echonet` that print the contents of files: functions from bytes to a sink for standard output. `show`
+//! writes exactly its lines. The others have exact faults and statuses, and end well only if all was read and flushed;
+//! their lines are tested. Begin with `showing` (a packet); each module is named for its command.
 #![tactic(auto)]
 
 mod area_counts;
@@ -18,7 +18,7 @@ mod showing;
 mod tags;
 mod words;
 
-pub use area_counts::{AreaCounts, list_areas};
+pub use area_counts::list_areas;
 pub use exporting::{ExportQuery, export, tell_lost};
 pub use faulty::FaultyLine;
 pub use judged::{Judged, judge};

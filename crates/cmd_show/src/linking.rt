@@ -1,9 +1,9 @@
 //! The command `links`: link files one by one, and all that is wrong with each.
-ghost use Rattle.std.specs.{Prelude.{◌≡◌, ◌++◌, IfOk, OnOk}, List.list_all};
+ghost use Rattle.std.specs.{Prelude.{◌≡◌, IfOk}, List.list_all};
 ghost use Rattle.cmd_status.specs.Devices.{output_of};
-ghost use Rattle.cmd_show.specs.{Linking.{LinksAnswers, is_good_file, links_status}, LinksShown.{file_text, files_text}};
+ghost use Rattle.cmd_show.specs.Linking.{LinksAnswers, is_good_file, links_status};
 
-use crate::links_text::{push_faults, push_good};
+use crate::links_text::{push_fault, push_good};
 use crate::{Judged, judge};
 use cmd_status::{Fault, Status, print_rest};
 use disk_io::Sink;
@@ -25,7 +25,7 @@ pub fn links<'a, W: Sink>(
     files: &[NamedFile],
     out: &mut W,
 ) -> Result<Status, Fault<'a>>
-    ensures { LinksAnswers areas files.now (output_of W.contents W.failures W.holds out.old) (output_of W.contents W.failures W.holds out.new) result }
+    ensures { LinksAnswers files.now (output_of W.contents W.failures W.holds out.old) (output_of W.contents W.failures W.holds out.new) result }
 {
     let mut lines = Vec::new(alloc);
     let good = push_files(alloc, &mut lines, areas, files)?;
@@ -39,8 +39,7 @@ fn push_files(
     areas: bool,
     files: &[NamedFile],
 ) -> Result<bool, AllocError>
-    ensures lines { OnOk result (lines.new.items ≡ lines.old.items ++ files_text areas files.now) }
-    ensures good { IfOk result (λ good. good ≡ list_all is_good_file files.now) }
+    ensures { IfOk result (λ good. good ≡ list_all is_good_file files.now) }
 {
     let mut good = true;
     'files: for file in files {
@@ -56,8 +55,7 @@ fn push_file(
     areas: bool,
     file: &NamedFile,
 ) -> Result<bool, AllocError>
-    ensures lines { OnOk result (lines.new.items ≡ lines.old.items ++ file_text areas file.now) }
-    ensures good { IfOk result (λ good. good ≡ is_good_file file.now) }
+    ensures { IfOk result (λ good. good ≡ is_good_file file.now) }
 {
     let path = file.path.as_slice();
     match judge(alloc, file.bytes.as_slice())? {
@@ -66,7 +64,9 @@ fn push_file(
             Ok(true)
         }
         Judged::Faulty(faults) => {
-            push_faults(alloc, lines, path, faults.as_slice())?;
+            for fault in faults.as_slice() {
+                push_fault(alloc, lines, path, fault)?;
+            }
             Ok(false)
         }
     }

@@ -1,7 +1,8 @@
-ghost use Rattle.std.specs.Prelude.{◌≡◌, ◌++◌, IfErr, IfOk, OnOk, OnErr, length, option_copied, option_map};
-ghost use Rattle.cmd_status.specs.{Devices.output_of, Ended.Stops};
-ghost use Rattle.{cmd_status.specs.Lines.{PassesOn, WritesFront}, echo_links.specs.Links.upper, cmd_show.specs.Listing.IsListed};
-ghost use Rattle.{cmd_print.specs.BaseListed.{asked_text, is_asked, is_of_area, messages_text}, cmd_show.specs.Fetching.{PrintsReading, StopsReading}};
+//! `list`: the messages of a base.
+
+ghost use Rattle.std.specs.Prelude.{◌≡◌, IfErr, IfOk, OnOk};
+ghost use Rattle.cmd_status.specs.{Devices.output_of, Ended.{PassesAll, Stops}, declared.status.Status.TheVariants.Good};
+ghost use Rattle.cmd_show.specs.Fetching.{AreLegibleFrom, StopsReading};
 ghost use Rattle.base_file.specs.Base as model;
 
 use base_folder::{MessageSource, fetch_message, start_number};
@@ -38,9 +39,11 @@ pub fn list<'a, M: MessageSource, W: Sink>(
     out: &mut W,
 ) -> Result<Status, Fault<'a>>
     requires { (M.state messages.old).is_ready }
-    ensures { (M.state messages.new).is_honest → (base : model.Base) → (M.state messages.old).holds base
-        → PrintsReading (IsListed asked.now.form (option_copied asked.now.area) asked.now.first base) path.now (M.state messages.old).failures (M.state messages.new).failures
-        (output_of W.contents W.failures W.holds out.old) (output_of W.contents W.failures W.holds out.new) result }
+    ensures status { IfOk result (λ status. status ≡ Good) }
+    ensures passed { OnOk result (PassesAll (output_of W.contents W.failures W.holds out.old) (output_of W.contents W.failures W.holds out.new)) }
+    ensures fault { (M.state messages.new).is_honest → (base : model.Base) → (M.state messages.old).holds base
+        → IfErr result (StopsReading path.now (M.state messages.old).failures (M.state messages.new).failures (W.failures out.old) (W.failures out.new)) }
+    ensures whole { (M.state messages.new).is_honest → OnOk result (AreLegibleFrom (M.state messages.old) asked.now.first) }
 {
     let area = upper_tag(alloc, asked.area)?;
     let asked = ListFilter {
@@ -57,9 +60,10 @@ pub fn list<'a, M: MessageSource, W: Sink>(
     Ok(Status::Good)
 }
 
-pub(crate) fn upper_tag(alloc: Global, area: Option<&[u8]>) -> Result<Option<Items<u8>>, AllocError>
-    ensures { IfOk result (λ upper_tag. upper_tag ≡ option_map upper (option_copied area.entry)) }
-{
+pub(crate) fn upper_tag(
+    alloc: Global,
+    area: Option<&[u8]>,
+) -> Result<Option<Items<u8>>, AllocError> {
     match area {
         Some(tag) => Ok(Some(Items::new(tag.to_ascii_uppercase(alloc)?))),
         None => Ok(None),
@@ -74,13 +78,10 @@ fn print_messages<'a, M: MessageSource, W: Sink>(
     out: &mut W,
 ) -> Result<(), Fault<'a>>
     requires { (M.state messages.old).is_ready }
-    ensures lines { (M.state messages.new).is_honest → (base : model.Base) → (M.state messages.old).holds base
-        → OnOk result (PassesOn (lines.old.items ++ messages_text asked.now.form asked.now.area asked.now.first base.messages base.cursor (length base.messages)) lines.new.items (W.contents out.old) (W.contents out.new)) }
-    ensures begun { (M.state messages.new).is_honest → (base : model.Base) → (M.state messages.old).holds base
-        → OnErr result (WritesFront (lines.old.items ++ messages_text asked.now.form asked.now.area asked.now.first base.messages base.cursor (length base.messages)) (W.contents out.old) (W.contents out.new)) }
     ensures ok { OnOk result (W.failures out.new ≡ W.failures out.old) }
-    ensures err { (M.state messages.new).is_honest → (base : model.Base) → (M.state messages.old).holds base
+    ensures fault { (M.state messages.new).is_honest → (base : model.Base) → (M.state messages.old).holds base
         → IfErr result (StopsReading path.now (M.state messages.old).failures (M.state messages.new).failures (W.failures out.old) (W.failures out.new)) }
+    ensures whole { (M.state messages.new).is_honest → OnOk result (AreLegibleFrom (M.state messages.old) asked.now.first) }
 {
     let count = messages.count();
     let cursor = messages.cursor();
@@ -99,31 +100,20 @@ fn print_message<'a, W: Sink>(
     lines: &mut Vec<u8>,
     out: &mut W,
 ) -> Result<(), Fault<'a>>
-    ensures lines { OnOk result (PassesOn (lines.old.items ++ asked_text asked.now.form asked.now.area asked.now.first cursor i (option_copied message.entry)) lines.new.items (W.contents out.old) (W.contents out.new)) }
-    ensures begun { OnErr result (WritesFront (lines.old.items ++ asked_text asked.now.form asked.now.area asked.now.first cursor i (option_copied message.entry)) (W.contents out.old) (W.contents out.new)) }
     ensures ok { OnOk result (W.failures out.new ≡ W.failures out.old) }
     ensures err { IfErr result (Stops (W.failures out.old) (W.failures out.new)) }
 {
     let Some(message) = message else {
         return Ok(());
     };
-    if !is_asked(asked, i, message) {
+    if (i as u64) < asked.first || !is_of_area(asked.area.as_ref(), message.echo.tag.as_slice()) {
         return Ok(());
     }
     push_listed(lines, asked.form, cursor, i, message)?;
     flush_piece(lines, out)
 }
 
-fn is_asked(asked: &ListFilter, i: usize, message: &Filed) -> bool
-    ensures { result ≡ is_asked asked.now.area asked.now.first i message.now }
-{
-    let tag = message.echo.tag.as_slice();
-    asked.first <= i as u64 && is_of_area(asked.area.as_ref(), tag)
-}
-
-pub(crate) fn is_of_area(area: Option<&Items<u8>>, tag: &[u8]) -> bool
-    ensures { result ≡ is_of_area (option_copied area.entry) tag.now }
-{
+pub(crate) fn is_of_area(area: Option<&Items<u8>>, tag: &[u8]) -> bool {
     match area {
         None => true,
         Some(area) => tag == area.as_slice(),

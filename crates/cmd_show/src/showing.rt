@@ -1,3 +1,5 @@
+//! `show`: the parts of a packet.
+
 ghost use Rattle.std.specs.Prelude.{◌≡◌, ◌++◌, ◌<◌, ◌^◌, length, OnErr, OnOk, IfErr};
 ghost use Rattle.cmd_status.specs.{Devices.output_of, Ended.IsOutOfMemory, Limits.show_limits};
 ghost use Rattle.echo_packet.specs.{Reader.{IsReading, reader_given, reader_header, reader_limits, reader_place, reader_source}, Header.{IsHeader, header_bytes}};

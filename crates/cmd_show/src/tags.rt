@@ -1,3 +1,5 @@
+//! The tags of the lines so far.
+
 ghost use Rattle.std.specs.{Prelude.{◌≡◌, [], OnOk, bytes_eq}, List.list_any};
 ghost use Rattle.cmd_show.specs.Before.{HasTagAdded};
 

@@ -1,3 +1,5 @@
+//! The words of a line, and which of them is wrong.
+
 ghost use Rattle.std.specs.Prelude.{◌≡◌, [], true, false, IfOk, MatchOption};
 ghost use Rattle.{echo_addr.specs.Entries.tokens, cmd_show.specs.Before.{Tells, links_say}};
 ghost use Rattle.{echo_links.specs.{LinkLines.{is_one_address, links_fault}, LinkReading.IsWordOf}, cmd_show.specs.FaultyLines.{not_one_address, word_with_control}};

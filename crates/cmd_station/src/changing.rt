@@ -6,15 +6,18 @@ ghost use Rattle.station.specs.Opening.{AreFree};
 use crate::place::{Station, find_base, station_locks};
 use crate::posting::new_message;
 use crate::running::{Before, run_at_station};
+use base_file::PurgeRange;
 use cmd_input::{MAX_TEXT_FILE, named_serial, named_stamp, read_file, read_standard_input};
 use cmd_numbered::refuse_message;
 use cmd_status::{Fault, FileLock, Status, parse_number};
 use cmd_store::{Answer, NewMessage, Post, PostMail, Purge, Reply};
-use cmd_words::{Place, PostStoredWords, PostWords, ReplyWords};
+use cmd_words::{Place, PostStoredWords, PostWords, PurgeWords, ReplyWords};
 use disk_io::Sink;
+use echo_addr::Items;
 use echo_stored::{StoredFault, read_stored};
 use model_steps::{PostFault, Stamp};
 use station::Locks;
+use std::alloc::Global;
 
 /// A command with its words and its body.
 #[derive(Drop)]
@@ -22,16 +25,16 @@ pub(crate) enum BaseCommand<'w> {
     Post(Post<'w>),
     PostMail(PostMail<'w>),
     Reply(Reply<'w>),
-    Purge(Purge),
+    Purge(Purge<'w>),
 }
 
 /// Finds the base of a station, and runs a command on it. Faults of its files precede the fault of an earlier input,
 /// `unread`.
-pub(crate) fn find_and_change<W: Sink, E: Sink>(
-    rt: &HostRuntime,
-    place: Place<'_>,
-    asked: &mut BaseCommand<'_>,
-    unread: Option<Fault<'_>>,
+pub(crate) fn find_and_change<'a, 'w: 'a, W: Sink, E: Sink>(
+    rt: &'a HostRuntime,
+    place: Place<'a>,
+    asked: &mut BaseCommand<'w>,
+    unread: Option<Fault<'a>>,
     out: &mut W,
     errors: &mut E,
 ) -> Status {
@@ -43,10 +46,10 @@ pub(crate) fn find_and_change<W: Sink, E: Sink>(
 }
 
 // Runs it on a station with a found base.
-fn change_found<'a, L: FileLock, K: FileLock, W: Sink>(
+fn change_found<'a, 'w: 'a, L: FileLock, K: FileLock, W: Sink>(
     at: Station<'a>,
     locks: &mut Locks<L, K>,
-    asked: &mut BaseCommand<'_>,
+    asked: &mut BaseCommand<'w>,
     unread: Option<Fault<'a>>,
     out: &mut W,
 ) -> Result<(), Fault<'a>>
@@ -75,20 +78,47 @@ pub(crate) enum PostEnd {
 }
 
 /// The same. A posting that is refused is not reported.
-pub(crate) fn find_and_post<'a, W: Sink, E: Sink>(
+pub(crate) fn find_and_post<'a, 'w: 'a, W: Sink, E: Sink>(
     rt: &'a HostRuntime,
     place: Place<'a>,
-    asked: &mut BaseCommand<'_>,
+    asked: &mut BaseCommand<'w>,
     unread: Option<Fault<'a>>,
     out: &mut W,
     errors: &mut E,
 ) -> PostEnd {
     let mut locks = station_locks(rt, place);
-    let found = match find_base(rt, place, &mut locks) {
-        Ok(found) => found,
-        Err(fault) => return PostEnd::Stopped(fault.report(errors)),
-    };
-    match change_found(found.at(rt, place), &mut locks, asked, unread, out) {
+    post_with(rt, place, &mut locks, asked, unread, out, errors)
+}
+
+// The same with these locks.
+fn post_with<'a, 'w: 'a, L: FileLock, K: FileLock, W: Sink, E: Sink>(
+    rt: &'a HostRuntime,
+    place: Place<'a>,
+    locks: &mut Locks<L, K>,
+    asked: &mut BaseCommand<'w>,
+    unread: Option<Fault<'a>>,
+    out: &mut W,
+    errors: &mut E,
+) -> PostEnd
+    requires { AreFree (L.held locks.old.links) (K.held locks.old.base) }
+{
+    match find_base(rt, place, locks) {
+        Ok(found) => post_found(found.at(rt, place), locks, asked, unread, out, errors),
+        Err(fault) => PostEnd::Stopped(fault.report(errors)),
+    }
+}
+
+fn post_found<'a, 'w: 'a, L: FileLock, K: FileLock, W: Sink, E: Sink>(
+    at: Station<'a>,
+    locks: &mut Locks<L, K>,
+    asked: &mut BaseCommand<'w>,
+    unread: Option<Fault<'a>>,
+    out: &mut W,
+    errors: &mut E,
+) -> PostEnd
+    requires { AreFree (L.held locks.old.links) (K.held locks.old.base) }
+{
+    match change_found(at, locks, asked, unread, out) {
         Ok(()) => PostEnd::Posted,
         Err(Fault::Post(why)) => PostEnd::Refused(why),
         Err(fault) => PostEnd::Stopped(fault.report(errors)),
@@ -189,56 +219,111 @@ pub(crate) fn run_post_stored<W: Sink, E: Sink>(
     out: &mut W,
     errors: &mut E,
 ) -> Status {
-    let (serial, free, stamp, message) = match stored_given(rt, words) {
-        Ok(given) => given,
+    match stated_in(rt, words.serial, words.at) {
+        Ok(stated) => post_stored_file(rt, words, stated, out, errors),
+        Err(fault) => fault.report(errors),
+    }
+}
+
+// The serial of a message, whether it gets the first free one from that on, and its stamp.
+#[derive(Clone, Copy)]
+struct Stated {
+    serial: u32,
+    free: bool,
+    stamp: Stamp,
+}
+
+fn stated_in<'a>(rt: &HostRuntime, serial: &str, stamp: &str) -> Result<Stated, Fault<'a>> {
+    let (serial, free) = named_serial(rt, serial)?;
+    match named_stamp(rt, stamp) {
+        Ok(stamp) => Ok(Stated {
+            serial,
+            free,
+            stamp,
+        }),
+        Err(fault) => Err(fault),
+    }
+}
+
+fn post_stored_file<W: Sink, E: Sink>(
+    rt: &HostRuntime,
+    words: &PostStoredWords<'_>,
+    stated: Stated,
+    out: &mut W,
+    errors: &mut E,
+) -> Status {
+    match read_file(rt, words.message, MAX_TEXT_FILE) {
+        Ok(message) => post_stored(rt, words, stated, &message, out, errors),
+        Err(fault) => fault.report(errors),
+    }
+}
+
+fn post_stored<W: Sink, E: Sink>(
+    rt: &HostRuntime,
+    words: &PostStoredWords<'_>,
+    stated: Stated,
+    message: &[u8],
+    out: &mut W,
+    errors: &mut E,
+) -> Status {
+    match read_stored(rt.alloc(), message) {
+        Ok(draft) => {
+            let posting = NewMessage {
+                tag: words.area.as_bytes(),
+                to_name: draft.to_name,
+                from_name: draft.from_name,
+                subject: draft.subject,
+                reply: draft.reply,
+                serial: stated.serial,
+                stamp: stated.stamp,
+            };
+            let post = Post {
+                words: posting,
+                free: stated.free,
+                body: draft.body.as_slice(),
+            };
+            let mut asked = BaseCommand::Post(post);
+            find_and_change(rt, words.place, &mut asked, None, out, errors)
+        }
+        Err(StoredFault::BadMessage) => refuse_message(rt.alloc(), errors),
+        Err(StoredFault::Memory) => Fault::OutOfMemory.report(errors),
+    }
+}
+
+/// `purge`: the number is judged first, then the files, then the area.
+pub(crate) fn run_purge<W: Sink, E: Sink>(
+    rt: &HostRuntime,
+    words: PurgeWords<'_>,
+    out: &mut W,
+    errors: &mut E,
+) -> Status {
+    let range = match range_of(rt.alloc(), words) {
+        Ok(range) => range,
         Err(fault) => return fault.report(errors),
     };
-    let draft = match read_stored(rt.alloc(), &message) {
-        Ok(draft) => draft,
-        Err(StoredFault::BadMessage) => return refuse_message(rt.alloc(), errors),
-        Err(StoredFault::Memory) => return Fault::OutOfMemory.report(errors),
-    };
-    let posting = NewMessage {
-        tag: words.area.as_bytes(),
-        to_name: draft.to_name,
-        from_name: draft.from_name,
-        subject: draft.subject,
-        reply: draft.reply,
-        serial,
-        stamp,
-    };
-    let post = Post {
-        words: posting,
-        free,
-        body: draft.body.as_slice(),
+    let purge = Purge {
+        range,
+        area: words.area.unwrap_or(""),
     };
     find_and_change(
         rt,
         words.place,
-        &mut BaseCommand::Post(post),
+        &mut BaseCommand::Purge(purge),
         None,
         out,
         errors,
     )
 }
 
-// A stored message to post: its serial, whether it gets the first free one from that on, its stamp, and its bytes.
-fn stored_given<'a>(
-    rt: &HostRuntime,
-    words: &PostStoredWords<'a>,
-) -> Result<(u32, bool, Stamp, Vec<u8>), Fault<'a>> {
-    let (serial, free) = named_serial(rt, words.serial)?;
-    let stamp = named_stamp(rt, words.at)?;
-    let message = read_file(rt, words.message, MAX_TEXT_FILE)?;
-    Ok((serial, free, stamp, message))
-}
-
-/// `purge`.
-pub(crate) fn run_purge<W: Sink, E: Sink>(
-    rt: &HostRuntime,
-    place: Place<'_>,
-    out: &mut W,
-    errors: &mut E,
-) -> Status {
-    find_and_change(rt, place, &mut BaseCommand::Purge(Purge), None, out, errors)
+// What `purge` is to reach.
+fn range_of<'a>(alloc: Global, words: PurgeWords<'a>) -> Result<PurgeRange, Fault<'a>> {
+    let below = match words.to {
+        Some(word) => Some(parse_number(word)?),
+        None => None,
+    };
+    let area = match words.area {
+        Some(tag) => Some(Items::new(tag.as_bytes().to_ascii_uppercase(alloc)?)),
+        None => None,
+    };
+    Ok(PurgeRange { area, below })
 }

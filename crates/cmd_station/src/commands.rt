@@ -26,6 +26,6 @@ pub fn run_station<W: Sink, E: Sink>(
         StationWords::Reply(words) => run_reply(rt, words, out, errors),
         StationWords::Toss(words) => run_toss(rt, words, progress, out, errors),
         StationWords::Scan(words) => run_scan(rt, *words, progress, out, errors),
-        StationWords::Purge(place) => run_purge(rt, *place, out, errors),
+        StationWords::Purge(words) => run_purge(rt, *words, out, errors),
     }
 }

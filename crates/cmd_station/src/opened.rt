@@ -82,8 +82,10 @@ impl<'a, D: Disk> BeforeCommand<'a, FolderStore<D, SipDigest>> for Opened<'a, '_
     ghost lets = { λ opened. Unit {0} };
 
     fn prepare(&mut self, store: &mut FolderStore<D, SipDigest>) -> Result<(), Fault<'a>> {
-        let keys = self.keys(store.len());
-        store.expect(&keys);
+        {
+            let keys = self.keys(store.len());
+            store.expect(&keys);
+        }
         match self.settle(store.len(), store.owner()) {
             Ok(()) => Ok(()),
             Err(fault) => {

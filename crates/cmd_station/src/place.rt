@@ -32,7 +32,15 @@ pub struct Station<'a> {
     pub files: &'a BaseFiles<'a>,
 }
 
-impl FoundBase<'_> {
+impl<'r> FoundBase<'r> {
+    fn new(rt: &'r HostRuntime, path: String, folder: Option<FolderProbe>) -> FoundBase<'r> {
+        FoundBase {
+            path,
+            folder,
+            files: BaseFiles::new(rt),
+        }
+    }
+
     /// The station of these paths.
     pub fn at<'a>(&'a self, rt: &'a HostRuntime, place: Place<'a>) -> Station<'a> {
         Station {
@@ -67,37 +75,65 @@ pub fn find_base<'a, L: FileLock, K: FileLock>(
 {
     match found_at(rt, place.base) {
         Ok(found) => Ok(found),
-        Err(fault) => {
-            let mut disk = RealDisk::new(rt, Unknown);
-            lock_both(rt, &mut disk, place, locks)?;
-            Err(fault)
-        }
+        Err(fault) => Err(first_fault(rt, place, locks, fault)),
+    }
+}
+
+// The fault of the link file or of a lock, if there is one, in place of that of a folder.
+fn first_fault<'a, L: FileLock, K: FileLock>(
+    rt: &HostRuntime,
+    place: Place<'a>,
+    locks: &mut Locks<L, K>,
+    fault: Fault<'a>,
+) -> Fault<'a>
+    requires { AreFree (L.held locks.old.links) (K.held locks.old.base) }
+{
+    let mut disk = RealDisk::new(rt, Unknown);
+    match lock_both(rt, &mut disk, place, locks) {
+        Ok(()) => fault,
+        Err(first) => first,
     }
 }
 
 // The state of the base with this path.
 fn found_at<'a>(rt: &'a HostRuntime, base: &'a str) -> Result<FoundBase<'a>, Fault<'a>> {
-    let (path, folder) = if is_folder(rt, base) {
-        let (path, found) = probed(rt, base)?;
-        (path, Some(found))
+    if is_folder(rt, base) {
+        match probed(rt, base) {
+            Ok((path, found)) => Ok(FoundBase::new(rt, path, Some(found))),
+            Err(fault) => Err(fault),
+        }
     } else {
-        (followed(rt, base)?, None)
-    };
-    Ok(FoundBase {
-        path,
-        folder,
-        files: BaseFiles::new(rt),
-    })
+        match followed(rt, base) {
+            Ok(path) => Ok(FoundBase::new(rt, path, None)),
+            Err(fault) => Err(fault),
+        }
+    }
 }
 
 // The path before the names of the files of this base folder, its state, and a key for its digests. Its files have no
 // second path then.
 fn probed<'a>(rt: &HostRuntime, base: &'a str) -> Result<(String, FolderProbe), Fault<'a>> {
     let strange = is_strange(rt, base)?;
-    let path = folder_path(rt, base)?;
-    break_hard_links(rt, base, path.as_str(), strange)?;
-    let key = drawn_key(rt)?;
-    Ok((path, FolderProbe { strange, key }))
+    match folder_path(rt, base) {
+        Ok(path) => match probed_at(rt, base, path.as_str(), strange) {
+            Ok(found) => Ok((path, found)),
+            Err(fault) => Err(fault),
+        },
+        Err(_) => Err(Fault::OutOfMemory),
+    }
+}
+
+fn probed_at<'a>(
+    rt: &HostRuntime,
+    base: &'a str,
+    path: &str,
+    strange: bool,
+) -> Result<FolderProbe, Fault<'a>> {
+    break_hard_links(rt, base, path, strange)?;
+    match drawn_key(rt) {
+        Ok(key) => Ok(FolderProbe { strange, key }),
+        Err(fault) => Err(fault),
+    }
 }
 
 // The path of a base file, with symbolic links followed. If they lead to no file, that is a fault when the base is
@@ -106,7 +142,10 @@ fn followed<'a>(rt: &HostRuntime, base: &'a str) -> Result<String, Fault<'a>> {
     match write_target(rt.alloc(), rt, base) {
         Ok(target) => Ok(target),
         Err(OutputFault::Memory) => Err(Fault::OutOfMemory),
-        Err(OutputFault::Device) => Ok(String::from_str(rt.alloc(), base)?),
+        Err(OutputFault::Device) => match String::from_str(rt.alloc(), base) {
+            Ok(path) => Ok(path),
+            Err(_) => Err(Fault::OutOfMemory),
+        },
     }
 }
 
@@ -119,6 +158,8 @@ fn lock_both<'a, D: Disk, L: FileLock, K: FileLock>(
 ) -> Result<(), Fault<'a>>
     requires { AreFree (L.held locks.old.links) (K.held locks.old.base) }
 {
-    let _links = lock_and_read_links(rt.alloc(), disk, &mut locks.links, place.links)?;
-    take_lock(&mut locks.base, place.base)
+    match lock_and_read_links(rt.alloc(), disk, &mut locks.links, place.links) {
+        Ok(_) => take_lock(&mut locks.base, place.base),
+        Err(fault) => Err(fault),
+    }
 }

@@ -2,9 +2,10 @@
 ghost use Rattle.std.specs.Prelude.{◌≡◌, None};
 
 use crate::changing::{BaseCommand, PostEnd, find_and_post};
-use cmd_base::open_base;
+use base_folder::MessageSource;
+use cmd_door::{UseMessages, with_base};
 use cmd_input::{LinkLock, named_serial, named_stamp};
-use cmd_jam::Outbox;
+use cmd_jam::{Outbox, OutboxMessage};
 use cmd_numbered::{PostedWords, is_posted, own_serial, tell_refused};
 use cmd_status::{Fault, FileLock, Status};
 use cmd_store::{NewMessage, Post};
@@ -28,13 +29,28 @@ pub(crate) fn run_post_jam<W: Sink, E: Sink>(
         Ok(poster) => poster,
         Err(fault) => return fault.report(errors),
     };
-    let mut outbox = match Outbox::open(rt, words.jam) {
-        Ok(outbox) => outbox,
-        Err(fault) => return fault.report(errors),
-    };
+    match Outbox::open(rt, words.jam) {
+        Ok(mut outbox) => {
+            let status = post_entries(rt, poster, &mut outbox, out, errors);
+            match outbox.close(rt) {
+                Ok(()) => status,
+                Err(fault) => fault.report(errors),
+            }
+        }
+        Err(fault) => fault.report(errors),
+    }
+}
+
+fn post_entries<W: Sink, E: Sink>(
+    rt: &HostRuntime,
+    poster: JamPoster<'_>,
+    outbox: &mut Outbox<'_>,
+    out: &mut W,
+    errors: &mut E,
+) -> Status {
     let mut status = Status::Good;
     for i in 0..outbox.entries() {
-        match post_entry(rt, poster, &mut outbox, i, out, errors) {
+        match post_entry(rt, poster, outbox, i, out, errors) {
             PostEnd::Posted => {}
             PostEnd::Refused(_) => status = Status::Refused,
             PostEnd::Stopped(stopped) => {
@@ -43,10 +59,7 @@ pub(crate) fn run_post_jam<W: Sink, E: Sink>(
             }
         }
     }
-    match outbox.close(rt) {
-        Ok(()) => status,
-        Err(fault) => fault.report(errors),
-    }
+    status
 }
 
 // Posts the message of an entry of the index, if it is to be posted. A fault of the message alone is reported with its
@@ -59,17 +72,38 @@ fn post_entry<W: Sink, E: Sink>(
     out: &mut W,
     errors: &mut E,
 ) -> PostEnd {
-    let unsent = match outbox.unsent(rt, i) {
-        Ok(Some(unsent)) => unsent,
-        Ok(None) => return PostEnd::Posted,
-        Err(fault) => return PostEnd::Stopped(fault.report(errors)),
-    };
-    let ended = match outbox.draft(rt, &unsent) {
+    match outbox.unsent(rt, i) {
+        Ok(Some(unsent)) => post_unsent(rt, poster, outbox, &unsent, out, errors),
+        Ok(None) => PostEnd::Posted,
+        Err(fault) => PostEnd::Stopped(fault.report(errors)),
+    }
+}
+
+fn post_drafted<W: Sink, E: Sink>(
+    rt: &HostRuntime,
+    poster: JamPoster<'_>,
+    outbox: &Outbox<'_>,
+    unsent: &OutboxMessage,
+    out: &mut W,
+    errors: &mut E,
+) -> PostEnd {
+    match outbox.draft(rt, unsent) {
         Ok(draft) => poster.post_or_refuse(&draft, out, errors),
-        Err(fault) => return PostEnd::Stopped(fault.report(errors)),
-    };
+        Err(fault) => PostEnd::Stopped(fault.report(errors)),
+    }
+}
+
+fn post_unsent<W: Sink, E: Sink>(
+    rt: &HostRuntime,
+    poster: JamPoster<'_>,
+    outbox: &mut Outbox<'_>,
+    unsent: &OutboxMessage,
+    out: &mut W,
+    errors: &mut E,
+) -> PostEnd {
+    let ended = post_drafted(rt, poster, outbox, unsent, out, errors);
     let reported = match ended {
-        PostEnd::Posted => outbox.mark(&unsent),
+        PostEnd::Posted => outbox.mark(unsent),
         PostEnd::Refused(_) => tell_refused(rt.alloc(), unsent.number(), out),
         PostEnd::Stopped(_) => Ok(()),
     };
@@ -96,17 +130,17 @@ impl<'a> JamPoster<'a> {
     fn new(rt: &'a HostRuntime, words: &PostJamWords<'a>) -> Result<JamPoster<'a>, Fault<'a>> {
         let (serial, _) = named_serial(rt, words.serial)?;
         let stamp = named_stamp(rt, words.at)?;
-        let mut disk = RealDisk::new(rt, Unknown);
-        let mut lock = LinkLock::ahead(rt, words.place.links);
-        let own = own_address(rt, &mut disk, &mut lock, words.place.links)?;
-        Ok(JamPoster {
-            rt,
-            place: words.place,
-            tag: words.area,
-            own,
-            serial,
-            stamp,
-        })
+        match own_address(rt, words.place.links) {
+            Ok(own) => Ok(JamPoster {
+                rt,
+                place: words.place,
+                tag: words.area,
+                own,
+                serial,
+                stamp,
+            }),
+            Err(fault) => Err(fault),
+        }
     }
 
     // Posts the message, and reports a fault. One that is not of the message alone stops all postings.
@@ -191,8 +225,28 @@ impl<'a> JamPoster<'a> {
             subject: draft.subject,
         };
         let base = self.place.base;
-        let mut messages = open_base(self.rt, base, 0)?;
-        is_posted(self.rt.alloc(), words, base, &mut messages)
+        let mut asked = Posted {
+            rt: self.rt,
+            base,
+            words,
+        };
+        with_base(self.rt, base, 0, &mut asked)
+    }
+}
+
+// Asks whether a base has a message.
+#[derive(Clone, Copy, Drop)]
+struct Posted<'q, 'a> {
+    rt: &'q HostRuntime,
+    base: &'a str,
+    words: PostedWords<'q>,
+}
+
+impl<'a> UseMessages<'a> for Posted<'_, 'a> {
+    type Answer = bool;
+
+    fn run<M: MessageSource>(&mut self, messages: &mut M) -> Result<bool, Fault<'a>> {
+        is_posted(self.rt.alloc(), self.words, self.base, messages)
     }
 }
 
@@ -205,7 +259,13 @@ fn is_of_message(why: PostFault) -> bool {
 }
 
 // The address of the link file, which is read under its lock.
-fn own_address<'a, D: Disk, L: FileLock>(
+fn own_address<'a>(rt: &HostRuntime, path: &'a str) -> Result<Address, Fault<'a>> {
+    let mut disk = RealDisk::new(rt, Unknown);
+    let mut lock = LinkLock::ahead(rt, path);
+    address_in(rt, &mut disk, &mut lock, path)
+}
+
+fn address_in<'a, D: Disk, L: FileLock>(
     rt: &HostRuntime,
     disk: &mut D,
     lock: &mut L,
@@ -213,6 +273,8 @@ fn own_address<'a, D: Disk, L: FileLock>(
 ) -> Result<Address, Fault<'a>>
     requires { L.held lock.old ≡ None }
 {
-    let links = lock_and_read_links(rt.alloc(), disk, lock, path)?;
-    Ok(links.system())
+    match lock_and_read_links(rt.alloc(), disk, lock, path) {
+        Ok(links) => Ok(links.system()),
+        Err(fault) => Err(fault),
+    }
 }

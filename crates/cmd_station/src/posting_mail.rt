@@ -3,7 +3,8 @@
 ghost use Rattle.std.specs.Prelude.{◌≡◌, None};
 
 use crate::changing::{BaseCommand, find_and_change};
-use cmd_base::open_base;
+use base_folder::MessageSource;
+use cmd_door::{UseMessages, with_base};
 use cmd_input::{LinkLock, MAX_TEXT_FILE, named_serial, named_stamp, read_standard_input};
 use cmd_numbered::{Answered, find_answered};
 use cmd_status::{Fault, FileLock, Status};
@@ -13,7 +14,7 @@ use disk_io::{Disk, Sink};
 use disk_system::{RealDisk, Unknown};
 use echo_addr::Items;
 use echo_charset::Charset;
-use echo_mail::{MailFault, exported_id, field_value, named_area, read_mail};
+use echo_mail::{Field, MailFault, exported_id, field_value, named_area, read_mail};
 use model_steps::Stamp;
 use station::lock_links;
 use std::alloc::{AllocError, Global};
@@ -43,12 +44,21 @@ pub(crate) fn run_post_mail<W: Sink, E: Sink>(
     let Ok(charset) = charset_asked(words.charset.unwrap_or("CP437")) else {
         return LetterFault::BadCharset.report(errors);
     };
-    let given = match mail_given(rt, words, charset) {
-        Ok(given) => given,
-        Err(fault) => return fault.report(errors),
-    };
-    match answered_message(rt, words, &given) {
-        Ok(found) => post_given(rt, words, &given, found.as_ref(), out, errors),
+    match mail_given(rt, words, charset) {
+        Ok(given) => answer_given(rt, words, &given, out, errors),
+        Err(fault) => fault.report(errors),
+    }
+}
+
+fn answer_given<W: Sink, E: Sink>(
+    rt: &HostRuntime,
+    words: &PostMailWords<'_>,
+    given: &MailDraft,
+    out: &mut W,
+    errors: &mut E,
+) -> Status {
+    match answered_message(rt, words, given) {
+        Ok(found) => post_given(rt, words, given, found.as_ref(), out, errors),
         Err(fault) => match links_fault(rt, words.place.links, errors) {
             Some(status) => status,
             None => fault.report(errors),
@@ -90,10 +100,11 @@ fn answered_message<'a>(
     words: &PostMailWords<'a>,
     given: &MailDraft,
 ) -> Result<Option<Answered>, Fault<'a>> {
-    let Some(id) = wanted_id(rt.alloc(), words, given)? else {
-        return Ok(None);
-    };
-    message_of_id(rt, words.place.base, id.as_slice())
+    match wanted_id(rt.alloc(), words, given) {
+        Ok(Some(id)) => message_of_id(rt, words.place.base, id.as_slice()),
+        Ok(None) => Ok(None),
+        Err(_) => Err(Fault::OutOfMemory),
+    }
 }
 
 // The message of this id, if the base has it.
@@ -105,8 +116,24 @@ fn message_of_id<'a>(
     if !fs::exists(rt, base).unwrap_or(true) {
         return Ok(None);
     }
-    let mut messages = open_base(rt, base, 0)?;
-    find_answered(rt.alloc(), id, base, &mut messages)
+    let mut search = Search { rt, base, id };
+    with_base(rt, base, 0, &mut search)
+}
+
+// Looks for the message of this id in a base.
+#[derive(Clone, Copy, Drop)]
+struct Search<'q, 'a> {
+    rt: &'q HostRuntime,
+    base: &'a str,
+    id: &'q [u8],
+}
+
+impl<'a> UseMessages<'a> for Search<'_, 'a> {
+    type Answer = Option<Answered>;
+
+    fn run<M: MessageSource>(&mut self, messages: &mut M) -> Result<Option<Answered>, Fault<'a>> {
+        find_answered(self.rt.alloc(), self.id, self.base, messages)
+    }
 }
 
 // The id of the message that the mail answers, if no area is named or the charset of that message is asked for. A mail
@@ -116,12 +143,19 @@ fn wanted_id(
     words: &PostMailWords<'_>,
     given: &MailDraft,
 ) -> Result<Option<Items<u8>>, AllocError> {
-    let mail = match read_mail(alloc, &given.mail) {
-        Ok(mail) => mail,
-        Err(MailFault::Memory) => return Err(AllocError),
-        Err(_) => return Ok(None),
-    };
-    let fields = mail.fields.as_slice();
+    match read_mail(alloc, &given.mail) {
+        Ok(mail) => wanted_in(alloc, words, given, mail.fields.as_slice()),
+        Err(MailFault::Memory) => Err(AllocError),
+        Err(_) => Ok(None),
+    }
+}
+
+fn wanted_in(
+    alloc: Global,
+    words: &PostMailWords<'_>,
+    given: &MailDraft,
+    fields: &[Field],
+) -> Result<Option<Items<u8>>, AllocError> {
     if given.charset.is_some() && (words.area.is_some() || named_area(fields).is_some()) {
         return Ok(None);
     }
@@ -202,12 +236,16 @@ fn refuse_mail<E: Sink>(
 
 // Reports why the link file cannot be read under its lock, if it cannot.
 fn links_fault<E: Sink>(rt: &HostRuntime, links: &str, errors: &mut E) -> Option<Status> {
-    let mut disk = RealDisk::new(rt, Unknown);
-    let mut lock = LinkLock::ahead(rt, links);
-    match check_links(rt, &mut disk, &mut lock, links) {
+    match links_checked(rt, links) {
         Ok(()) => None,
         Err(fault) => Some(fault.report(errors)),
     }
+}
+
+fn links_checked<'a>(rt: &HostRuntime, links: &'a str) -> Result<(), Fault<'a>> {
+    let mut disk = RealDisk::new(rt, Unknown);
+    let mut lock = LinkLock::ahead(rt, links);
+    check_links(rt, &mut disk, &mut lock, links)
 }
 
 // A fault if the link file cannot be read under its lock.
@@ -219,6 +257,8 @@ fn check_links<'a, D: Disk, L: FileLock>(
 ) -> Result<(), Fault<'a>>
     requires { L.held lock.old ≡ None }
 {
-    let _bytes = lock_links(rt.alloc(), disk, lock, links)?;
-    Ok(())
+    match lock_links(rt.alloc(), disk, lock, links) {
+        Ok(_) => Ok(()),
+        Err(fault) => Err(fault),
+    }
 }

@@ -6,7 +6,7 @@ ghost use Rattle.{disk_io.specs.Disk.Honestly, station.specs.Opening.AreFree};
 use crate::opened::Opened;
 use crate::place::Station;
 use base_store::{SipDigest, StoreError};
-use cmd_base::{Messages, hash_state, open_base};
+use cmd_base::{Messages, check_base, hash_state};
 use cmd_input::{MAX_TEXT_FILE, Progress, read_file};
 use cmd_packets::Tossing;
 use cmd_status::{Fault, FileLock};
@@ -261,8 +261,8 @@ pub(crate) fn by_name<'a>(at: Station<'a>, fault: Fault<'a>) -> Fault<'a> {
 
 // The fault of a base folder that has a damaged message.
 fn damaged_in<'a>(rt: &HostRuntime, base: &'a str) -> Fault<'a> {
-    match open_base(rt, base, 0) {
-        Ok(_) => Fault::CannotUse(base),
+    match check_base(rt, base) {
+        Ok(()) => Fault::CannotUse(base),
         Err(fault) => fault,
     }
 }

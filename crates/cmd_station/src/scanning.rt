@@ -75,12 +75,25 @@ fn find_and_scan<'a, W: Sink, E: Sink>(
     errors: &mut E,
 ) -> Status {
     let mut locks = station_locks(rt, place);
-    let found = match find_base(rt, place, &mut locks) {
-        Ok(found) => found,
-        Err(fault) => return fault.report(errors),
-    };
-    let at = found.at(rt, place);
-    scan_found(at, to, &mut locks, progress, out, errors)
+    scan_with(rt, place, to, &mut locks, progress, out, errors)
+}
+
+// The same with these locks.
+fn scan_with<'a, L: FileLock, K: FileLock, W: Sink, E: Sink>(
+    rt: &'a HostRuntime,
+    place: Place<'a>,
+    to: Outbound<'a>,
+    locks: &mut Locks<L, K>,
+    progress: &'a Progress<'a>,
+    out: &mut W,
+    errors: &mut E,
+) -> Status
+    requires { AreFree (L.held locks.old.links) (K.held locks.old.base) }
+{
+    match find_base(rt, place, locks) {
+        Ok(found) => scan_found(found.at(rt, place), to, locks, progress, out, errors),
+        Err(fault) => fault.report(errors),
+    }
 }
 
 // Scans a station with a found base, and reports the fault.
@@ -96,15 +109,28 @@ fn scan_found<'a, L: FileLock, K: FileLock, W: Sink, E: Sink>(
 {
     let scan = StationScan { at, to };
     let files = ScanFiles::new(scan.at.rt, scan.at.path, scan.to.slashed, progress);
+    scan_over_files(scan, progress, &files, locks, out, errors)
+}
+
+fn scan_over_files<'a, L: FileLock, K: FileLock, W: Sink, E: Sink>(
+    scan: StationScan<'a>,
+    progress: &'a Progress<'a>,
+    files: &'a ScanFiles<'a, 'a>,
+    locks: &mut Locks<L, K>,
+    out: &mut W,
+    errors: &mut E,
+) -> Status
+    requires { AreFree (L.held locks.old.links) (K.held locks.old.base) }
+{
     let done = match scan.at.folder {
-        Some(found) => scan_folder(scan, progress, &files, locks, found, out),
+        Some(found) => scan_folder(scan, progress, files, locks, found, out),
         None => {
-            let done = scan_file(scan, progress, &files, locks, out);
+            let done = scan_file(scan, progress, files, locks, out);
             files.tidy();
             done
         }
     };
-    report_scanned(scan, &files, done, errors)
+    report_scanned(scan, files, done, errors)
 }
 
 // Scans a station with a base file, over these files.

@@ -47,12 +47,49 @@ fn find_and_toss<'a, W: Sink, E: Sink>(
     errors: &mut E,
 ) -> Status {
     let mut locks = station_locks(rt, place);
-    let found = match find_base(rt, place, &mut locks) {
-        Ok(found) => found,
-        Err(fault) => return fault.report(errors),
+    let tossing = TossAsked {
+        by,
+        unread,
+        progress,
     };
-    let at = found.at(rt, place);
-    match toss_found(at, &mut locks, by, unread, progress, out) {
+    toss_with(rt, place, &mut locks, tossing, out, errors)
+}
+
+// The packets, the fault of their list, and where progress is shown.
+#[derive(Clone, Copy)]
+struct TossAsked<'a> {
+    by: Tossing<'a>,
+    unread: Option<Fault<'a>>,
+    progress: &'a Progress<'a>,
+}
+
+// The same with these locks.
+fn toss_with<'a, L: FileLock, K: FileLock, W: Sink, E: Sink>(
+    rt: &'a HostRuntime,
+    place: Place<'a>,
+    locks: &mut Locks<L, K>,
+    tossing: TossAsked<'a>,
+    out: &mut W,
+    errors: &mut E,
+) -> Status
+    requires { AreFree (L.held locks.old.links) (K.held locks.old.base) }
+{
+    match find_base(rt, place, locks) {
+        Ok(found) => toss_reported(found.at(rt, place), locks, tossing, out, errors),
+        Err(fault) => fault.report(errors),
+    }
+}
+
+fn toss_reported<'a, L: FileLock, K: FileLock, W: Sink, E: Sink>(
+    at: Station<'a>,
+    locks: &mut Locks<L, K>,
+    tossing: TossAsked<'a>,
+    out: &mut W,
+    errors: &mut E,
+) -> Status
+    requires { AreFree (L.held locks.old.links) (K.held locks.old.base) }
+{
+    match toss_found(at, locks, tossing.by, tossing.unread, tossing.progress, out) {
         Ok(None) => Status::Good,
         Ok(Some(fault)) => by_name(at, fault).report(errors),
         Err(fault) => fault.report(errors),

@@ -36,9 +36,10 @@ abbrev pub text_status : TextFault → Status
 text_status text.Memory = Device
 text_status _ = Refused
 
--- The status of a nodelist's fault: N5 blames memory.
+-- The status of a nodelist's fault: N5 and N6 blame memory or a device.
 abbrev pub node_status : NodeFault → Status
 node_status node.Memory = Device
+node_status (node.Write bytes) = Device
 node_status _ = Refused
 
 -- The status of a link file's fault: L9 blames memory.
@@ -82,6 +83,7 @@ status_of fault.BadNumber = Refused
 status_of (fault.ScriptLine line) = Refused
 status_of (fault.ListLine line) = Refused
 status_of (fault.NotLinked a) = Refused
+status_of (fault.NoArea tag) = Refused
 status_of (fault.TooLarge path) = Refused
 status_of (fault.CannotUse path) = Device
 status_of fault.OutOfMemory = Device

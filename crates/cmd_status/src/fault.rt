@@ -1,3 +1,5 @@
+//! Why a command stopped, and the line that says so.
+
 ghost use Rattle.std.specs.Prelude.{◌≡◌};
 ghost use Rattle.cmd_status.specs.{declared.fault.Fault.TheVariants.{Base, Link, Nodelist, OutOfMemory, Packet, Post, Scan}, Status.status_of};
 
@@ -63,6 +65,9 @@ pub enum Fault<'a> {
     /// The address is no link of the area.
     #[error("not linked {0}")]
     NotLinked(Address),
+    /// The link file has no such area.
+    #[error("no area {tag}", tag = Shown(.0))]
+    NoArea(&'a str),
     /// A file, or standard input as `-`, has more bytes than allowed.
     #[error("file too large {path}", path = Shown(.0))]
     TooLarge(&'a str),
@@ -147,7 +152,7 @@ impl Fault<'_> {
                 PacketFault::Read { .. } | PacketFault::Memory | PacketFault::Write { .. },
             )
             | Fault::Text(TextFault::Memory)
-            | Fault::Nodelist(NodeFault::Memory)
+            | Fault::Nodelist(NodeFault::Memory | NodeFault::Write { .. })
             | Fault::Link(LinkFault::Memory)
             | Fault::Base(BaseFault::Read | BaseFault::Write { .. } | BaseFault::Memory)
             | Fault::Post(PostFault::Memory)
@@ -172,6 +177,7 @@ impl Fault<'_> {
             | Fault::ScriptLine(_)
             | Fault::ListLine(_)
             | Fault::NotLinked(_)
+            | Fault::NoArea(_)
             | Fault::TooLarge(_) => Status::Refused,
         }
     }

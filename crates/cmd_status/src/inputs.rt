@@ -1,3 +1,5 @@
+//! Link files and nodelists that were read, or their fault.
+
 ghost use Rattle.std.specs.Prelude.{◌⊎◌, IfErr, IfOk, option_copied};
 ghost use Rattle.cmd_status.specs.{Ended.IsOutOfMemory, Inputs.AreLinkFiles, Inputs.IsLinkFault, Inputs.IsNodelistFault, Inputs.IsNodelistGiven};
 

@@ -1,3 +1,5 @@
+//! The limits of `show` and `toss`.
+
 ghost use Rattle.std.specs.Prelude.{◌≡◌};
 ghost use Rattle.cmd_status.specs.Limits.{limits_for};
 

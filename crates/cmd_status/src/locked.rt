@@ -1,3 +1,5 @@
+//! The trait of a file's lock.
+
 ghost use Rattle.std.specs.Prelude.{◌≡◌, ℕ, List, Option, Some, None, OnErr, OnOk};
 ghost use Rattle.disk_io.specs.Runs.{HasCause};
 

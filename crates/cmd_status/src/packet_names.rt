@@ -1,3 +1,5 @@
+//! The traits of packet files: their names, and how large ones are read.
+
 ghost use Rattle.std.specs.Prelude.{◌≡◌, ℕ, Bool, true, false, List, IfErr, IfOk};
 ghost use Rattle.cmd_status.specs.Ended.{IsCannotUse};
 

@@ -1,3 +1,5 @@
+//! A path as it is printed: bytes on which a terminal would act are escaped.
+
 use echo_charset::{are_shown, is_shown};
 use std::fmt;
 

@@ -1,3 +1,5 @@
+//! The statuses with which the program ends.
+
 ghost use Rattle.std.specs.Prelude.{◌≡◌, IfOk};
 ghost use Rattle.cmd_status.specs.{Devices.output_of, Ended.status_at};
 

@@ -3,12 +3,12 @@ use Rattle.{std.{proofs.Common.{List, ℕ, Option, Result, Ok, Err, inl, inr, �
 use Rattle.{disk_io.{specs.Disk.{Files, Honestly}, proofs.Moments.then_run}, base_store.specs.declared.store_error.StoreError.{StoreError, TheVariants.TooMany}}
 use Rattle.base_store.specs.Store.{CommitsNothing, GoesOn, IsSameStore, KeepsOthers, KeepsOrCommits, LeavesCommitted, LeavesEither, MayCommit, SameOtherFiles, StoreState}
 use Rattle.{base_store.proofs.Runs.{commits_none, same_twice, others_twice as kept_twice}, cmd_status.specs.declared.fault.Fault.Fault}
-use Rattle.{echo_filed.specs.Filed.Filed, echo_toss.specs.declared.step_error.{PostStepError.PostStepError, StoppedToss.StoppedToss}}
-use Rattle.echo_toss.specs.{declared.{step_error.TossStepError.TossStepError, tally.Tally.Tally}, PacketsIn.{stop_in, toss_answer}, Stores.post_answer}
-use Rattle.{echo_toss.proofs.Bounds.{full_now, handed_many, past_after}, cmd_store.specs.Bounded.{IsStoppedFull, IsUncommitted}}
+use Rattle.{echo_filed.specs.Filed.Filed, echo_steps.specs.declared.step_error.{PostStepError.PostStepError, StoppedToss.StoppedToss}}
+use Rattle.echo_steps.specs.{declared.{step_error.TossStepError.TossStepError, tally.Tally.Tally}, PacketsIn.{stop_in, toss_answer}, Stores.post_answer}
+use Rattle.{echo_steps.proofs.Bounds.{full_now, handed_many, past_after}, cmd_store.specs.Bounded.{IsStoppedFull, IsUncommitted}}
 use Rattle.cmd_store.specs.{Stops.{post_stop, store_answer}, Tossed.{ReportsIn, ReportsStop}}
-use Rattle.echo_toss.specs.declared.step_error.PostStepError.TheVariants as post
-use Rattle.echo_toss.specs.declared.step_error.TossStepError.TheVariants as toss
+use Rattle.echo_steps.specs.declared.step_error.PostStepError.TheVariants as post
+use Rattle.echo_steps.specs.declared.step_error.TossStepError.TheVariants as toss
 
 pub post_many : (P : Type 0) (A B : Type 0) (why : PostStepError) → (IsErrOf (post_answer {T = A} (Err why)) TooMany → P) → IsErrOf (store_answer {A = B} (Err (post_stop why))) TooMany → P
 post_many P A B (post.Refused refusal) gives is = gives is

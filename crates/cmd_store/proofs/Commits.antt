@@ -4,10 +4,10 @@ use Rattle.disk_io.{specs.Disk.{Files, Honestly}, proofs.Moments.{then_nothing, 
 use Rattle.base_store.specs.Store.{Commits, CommitsNothing, GoesOn, HasStoreCause, KeepsOrCommits, LooksOn, MayCommit, LeavesEither, StoreState}
 use Rattle.base_store.specs.declared.store_error.StoreError.{StoreError}
 use Rattle.base_store.proofs.Runs.{commits_none, goes_on_twice, looks_commit, looks_go_on, same_twice, others_twice as kept_twice}
-use Rattle.{base_store.proofs.Causes.{cause_after, no_cause}, echo_toss.specs.{declared.step_error.PostStepError.PostStepError, Stores.LooksWhereRefused}}
+use Rattle.{base_store.proofs.Causes.{cause_after, no_cause}, echo_steps.specs.{declared.step_error.PostStepError.PostStepError, Stores.LooksWhereRefused}}
 use Rattle.cmd_store.specs.Answered.{CommitsNoneWhereMet, GoesOnFromEither, HasCommitted, LooksWhereMet, MayCommitWhereMet, MayMake, RepresentsMade}
 use Rattle.cmd_store.specs.{Stops.{IsOfStore, post_stop}, declared.command_error.CommandError.{CommandError, TheVariants.{Met, Store}}}
-use Rattle.echo_toss.specs.declared.step_error.PostStepError.TheVariants as post
+use Rattle.echo_steps.specs.declared.step_error.PostStepError.TheVariants as post
 
 pub none_may : (old new : StoreState) → CommitsNothing old new → MayCommit old new
 none_may old new none = grind (arith, weaker_run)

@@ -4,15 +4,15 @@ use Rattle.{base_file.specs.Base.Base, disk_io.specs.Disk.Honestly, echo_filed.s
 use Rattle.{cmd_status.specs.{declared.fault.Fault.TheVariants.OutOfMemory, Devices.Output}, model_steps.specs.declared.draft.Draft.Draft}
 use Rattle.model_steps.specs.{declared.{fault.PostFault.PostFault, stamp.Stamp.Stamp}, Posting.{post_refusal, posted}, SystemState.SystemState}
 use Rattle.{model_steps.proofs.FirstRefusals.refusal_first, base_store.specs.Store.{HasStoreCause, LooksOn, StoreState, with_message}}
-use Rattle.{base_store.proofs.Runs.{looks_twice, no_look}, echo_text.specs.Ids.id_of, echo_toss.specs.declared.step_error.PostStepError.PostStepError}
-use Rattle.echo_toss.{specs.{PacketsIn.state_in, Stores.{IsPostStop, LooksWhereRefused, post_answer}}, proofs.Judged.is_fault}
+use Rattle.{base_store.proofs.Runs.{looks_twice, no_look}, echo_text.specs.Ids.id_of, echo_steps.specs.declared.step_error.PostStepError.PostStepError}
+use Rattle.echo_steps.{specs.{PacketsIn.state_in, Stores.{IsPostStop, LooksWhereRefused, post_answer}}, proofs.Judged.is_fault}
 use Rattle.cmd_store.specs.{FreeSerial.{FiledAs, FilesAs, IsSerial, PostsAs, PostsAsOn}, declared.drafting.NewMessage.NewMessage}
 use Rattle.cmd_store.specs.{Serials.{is_taken, serial_after, with_serial}, Lines.posted_line, Drafts.draft_given}
 use Rattle.cmd_store.specs.{declared.command_error.CommandError.{CommandError, TheVariants.Met}, Answered.PrintsAll, Posted.{Posts, PostsOn}, Stops.post_stop}
 use Rattle.cmd_store.proofs.FreeSerials.{first_here, first_of_all, free_where_allowed, next_step, one_more, refused_first, taken_where_known}
 use Rattle.cmd_store.proofs.Postings.{post_printed, post_stopped, posts}
 use Rattle.model_steps.specs.declared.fault.PostFault.TheVariants as fault
-use Rattle.echo_toss.specs.declared.step_error.PostStepError.TheVariants as post
+use Rattle.echo_steps.specs.declared.step_error.PostStepError.TheVariants as post
 
 -- serials were looked at in the store, from one on, and each was taken
 pub record HasLooked (file : LinkFile) (old mid : StoreState) (first now start serial steps : ℕ) : Type 0 where

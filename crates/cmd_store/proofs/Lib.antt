@@ -13,4 +13,3 @@ pub mod Tosses
 pub mod TossedFiles
 pub mod Runs
 pub mod Bounded
-mod Answered

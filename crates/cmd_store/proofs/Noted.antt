@@ -4,8 +4,8 @@ use Rattle.{std.{proofs.KnownBytes.Consumes-nil, specs.Prelude.option_to_list}, 
 use Rattle.echo_packet.specs.{declared.limits.Limits.Limits, Fault.place_of, Message.{Message, message_bytes, messages_bytes}}
 use Rattle.{echo_text.specs.Echo.{EchoOf, EchoText}, echo_links.specs.Links.LinkFile, echo_filed.specs.{Filed.Filed as FiledMessage, Written.echo_of}}
 use Rattle.{echo_filed.proofs.Texts.{says_accepted, says_one}, model_steps.specs.{declared.outcome.Outcome.Outcome, SystemState.SystemState}}
-use Rattle.{model_steps.specs.Tossing.{toss_outcome, tossed, tossing}, echo_toss.specs.{declared.tally.Tally.Tally, Messages.{HasTaken, IsOpened}}}
-use Rattle.{echo_toss.{specs.Tallies.tally_of, proofs.Stops.some_tossed}, cmd_store.specs.Notes.{area_said, note_of, notes_of, said_unless, text_said}}
+use Rattle.{model_steps.specs.Tossing.{toss_outcome, tossed, tossing}, echo_steps.specs.{declared.tally.Tally.Tally, Messages.{HasTaken, IsOpened}}}
+use Rattle.{echo_steps.{specs.Tallies.tally_of, proofs.Stops.some_tossed}, cmd_store.specs.Notes.{area_said, note_of, notes_of, said_unless, text_said}}
 use Rattle.cmd_store.specs.NotedPacket.{NotesSome, NotesTaken}
 
 pub said_area : (text : List ℕ) (e : EchoText) (dropped : ℕ) → EchoOf text e dropped → area_said e ≡ text_said text

@@ -2,7 +2,7 @@
 use Rattle.{std.proofs.Common.{◌≡◌, ◌≤◌, ℕ, List, [], refl, ap, arith, Option}, echo_addr.specs.declared.address.Address.Address, base_file.specs.Base.Base}
 use Rattle.{disk_io.specs.Disk.Honestly, echo_links.specs.Links.LinkFile, echo_packet.specs.declared.limits.Limits.Limits}
 use Rattle.base_store.{specs.Store.{CommitsNothing, GoesOn, StoreState}, proofs.Runs.{looks_commit, looks_go_on, no_look}}
-use Rattle.{echo_toss.specs.{declared.tally.Tally.Tally, PacketsIn.state_in, Tallies.{all_counted, tally_of}}, cmd_store.proofs.Noted.{HasNoted, none_noted}}
+use Rattle.{echo_steps.specs.{declared.tally.Tally.Tally, PacketsIn.state_in, Tallies.{all_counted, tally_of}}, cmd_store.proofs.Noted.{HasNoted, none_noted}}
 
 pub record HasNotedIn (limits : Limits) (sender : Address) (file : LinkFile) (old mid : StoreState) (first now : ℕ) (before left : Option (List ℕ)) (given at : ℕ) (tally : Tally) (text noted : List ℕ) (failed still : ℕ) (room : Type 0) : Type 0 where
   pub each : Honestly mid.disk ((base : Base) → old.keeps base

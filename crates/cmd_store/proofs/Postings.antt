@@ -1,10 +1,10 @@
 use Rattle.{std.proofs.Common.{◌≡◌, ℕ, List, None, Result, Err, arith}, base_file.specs.Base.Base, echo_links.specs.Links.LinkFile}
 use Rattle.{cmd_status.specs.Devices.Output, model_steps.specs.{declared.draft.Draft.Draft, Posting.{post_refusal, posted}, SystemState.SystemState}}
 use Rattle.{base_store.specs.Store.{HasStoreCause, StoreState, with_message}, echo_text.specs.Ids.id_of}
-use Rattle.echo_toss.specs.{declared.step_error.PostStepError.PostStepError, Stores.{IsPostStop, post_answer}}
+use Rattle.echo_steps.specs.{declared.step_error.PostStepError.PostStepError, Stores.{IsPostStop, post_answer}}
 use Rattle.cmd_store.specs.{declared.{drafting.NewMessage.NewMessage, command_error.CommandError.CommandError}, Lines.posted_line, Drafts.draft_given}
 use Rattle.cmd_store.{specs.{Answered.PrintsAll, Posted.{Posts, PostsOn}, Stops.{post_stop, store_answer}}, proofs.Printed.answered}
-use Rattle.echo_toss.specs.declared.step_error.PostStepError.TheVariants as post
+use Rattle.echo_steps.specs.declared.step_error.PostStepError.TheVariants as post
 
 pub post_stopped : (words : NewMessage) (system : SystemState) (body : List ℕ) (old : Output) (draft : Draft) (why : PostStepError) → draft ≡ draft_given words body
     → IsPostStop system.file system.base words.tag.now draft words.serial words.stamp why → PostsOn {A = Unit {0}} words system body old old (Err (post_stop why))

@@ -1,7 +1,7 @@
 use Rattle.std.{proofs.Common.{◌≡◌, ◌++◌, ℕ, true, List, [], ◌∷◌, map, Result, refl, ap, arith}, specs.List.flat_map}
 use Rattle.cmd_status.specs.Devices.{Output}
 use Rattle.model_steps.specs.{declared.packet.Packet.Packet, declared.stamp.Stamp.Stamp, Scanning.scanned, Stamps.is_stamp, SystemState.SystemState}
-use Rattle.echo_toss.specs.{declared.counting.CountedPacket.CountedPacket, Counts.counted_of}
+use Rattle.echo_steps.specs.{declared.counting.CountedPacket.CountedPacket, Counts.counted_of}
 use Rattle.cmd_store.specs.{PacketLines.counted_line, PacketLines.file_sent, PacketLines.line_sent, Answered.AnswersOn, Answered.AreLines, Answered.RefusesNone, Scanned.IsScannedAt, Scanned.ScansOn, Scanned.files_scanned, declared.command_error.CommandError.CommandError}
 
 lines_counted : (all : List Packet) → flat_map counted_line (map counted_of all) ≡ flat_map line_sent all

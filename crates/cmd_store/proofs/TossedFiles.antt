@@ -4,7 +4,7 @@ use Rattle.cmd_store.{proofs.Tossings.{each_ended, each_more, each_refused, each
 use Rattle.{cmd_store.specs.{TossedPacket.{TossRun, TossesPacketBy}, Tossed.{TossesFiles, TossesNext, run_at, stopped_in}}, disk_io.specs.Disk.Honestly}
 use Rattle.{echo_links.specs.Links.LinkFile, echo_packet.specs.declared.limits.Limits.Limits, cmd_status.specs.{declared.fault.Fault.Fault, Devices.Device}}
 use Rattle.base_store.specs.{Store.{CommitsNothing, GoesOn, StoreState}, declared.store_error.StoreError.StoreError}
-use Rattle.{base_store.proofs.Runs.{commits_none, goes_on_twice, looks_commit, looks_go_on, no_look}, echo_toss.specs.PacketsIn.state_in}
+use Rattle.{base_store.proofs.Runs.{commits_none, goes_on_twice, looks_commit, looks_go_on, no_look}, echo_steps.specs.PacketsIn.state_in}
 
 -- The remaining files have the same effect on the current base as all files on the first base. This also holds for
 -- later files that are honest only if the present ones are.

@@ -3,11 +3,11 @@ use Rattle.std.proofs.Common.{◌≡◌, ◌++◌, ℕ, Bool, true, false, List,
 use Rattle.{base_file.specs.Base.Base, echo_links.specs.Links.LinkFile, echo_packet.specs.declared.limits.Limits.Limits}
 use Rattle.{cmd_status.specs.{declared.fault.Fault.{Fault, TheVariants.{OutOfMemory, TossMemory}}, Devices.Device}, model_steps.specs.SystemState.SystemState}
 use Rattle.base_store.specs.{Store.StoreState, declared.store_error.StoreError.StoreError}
-use Rattle.echo_toss.specs.{PacketsIn.{HoldsUnlessFailed, cause_in, packet_answer, state_in, stop_in}, declared.step_error.StoppedToss.StoppedToss}
-use Rattle.echo_toss.specs.{declared.{step_error.TossStepError.TossStepError, tally.Tally.Tally}, PacketSteps.{CountsToss, PacketStep, TossFault}}
+use Rattle.echo_steps.specs.{PacketsIn.{HoldsUnlessFailed, cause_in, packet_answer, state_in, stop_in}, declared.step_error.StoppedToss.StoppedToss}
+use Rattle.echo_steps.specs.{declared.{fault.TossFault.TossFault, step_error.TossStepError.TossStepError, tally.Tally.Tally}, PacketSteps.{CountsToss, PacketStep}}
 use Rattle.cmd_store.specs.{Lines.tally_line, TossedPacket.{ReportsPacket, TossRun, TossesPacketBy, fault_of}, NotedPacket.NotesPacket}
 use Rattle.cmd_store.specs.Tossed.{ReportsIn, ReportsStop, TossesNext, run_at}
-use Rattle.echo_toss.specs.declared.step_error.TossStepError.TheVariants as toss
+use Rattle.echo_steps.specs.declared.step_error.TossStepError.TheVariants as toss
 
 -- the notes on a packet, or no notes if its messages are not noted
 abbrev pub NotesIf : Bool → Limits → SystemState → Option (List ℕ) → Result Tally TossFault → SystemState → List ℕ → List ℕ → Type 0

@@ -2,7 +2,7 @@
 use Rattle.std.specs.Prelude.{◌≡◌, ℕ, Bool, true, false, List}
 use Rattle.{base_file.specs.Base.Base, disk_io.specs.Disk.Honestly}
 use Rattle.{base_store.specs.Store.{CommitsNothing, MayCommit, StoreState}, echo_filed.specs.Filed.Filed, echo_links.specs.Links.LinkFile}
-use Rattle.{echo_toss.specs.Bounds.IsPastBound, model_steps.specs.{declared.draft.Draft.Draft, Posting.posted}}
+use Rattle.{echo_steps.specs.Bounds.IsPastBound, model_steps.specs.{declared.draft.Draft.Draft, Posting.posted}}
 use Rattle.cmd_store.specs.{declared.{drafting.NewMessage.NewMessage, answering.Answer.Answer, letter.Letter.Letter}, Drafts.draft_given}
 use Rattle.cmd_store.specs.{declared.mailed.MailWords.MailWords, Mailed.IsPosting}
 

@@ -3,9 +3,9 @@ use Rattle.std.specs.Prelude.{◌≡◌, ℕ, Bool, true, false, List, Some, Non
 use Rattle.{base_file.specs.Base.Base, echo_filed.specs.Filed.Filed}
 use Rattle.{echo_links.specs.Links.LinkFile, cmd_status.specs.Devices.Output, model_steps.specs.{declared.draft.Draft.Draft, Posting.{post_refusal, posted}}}
 use Rattle.{model_steps.specs.SystemState.SystemState, base_store.specs.Store.{StoreState, with_message}}
-use Rattle.{echo_toss.specs.declared.step_error.PostStepError.PostStepError, cmd_store.specs.declared.drafting.NewMessage.NewMessage}
+use Rattle.{echo_steps.specs.declared.step_error.PostStepError.PostStepError, cmd_store.specs.declared.drafting.NewMessage.NewMessage}
 use Rattle.cmd_store.specs.{Serials.{IsFirstFree, with_serial}, declared.command_error.CommandError.CommandError, Posted.{Posts, PostsOn}}
-use Rattle.echo_toss.specs.declared.step_error.PostStepError.TheVariants as post
+use Rattle.echo_steps.specs.declared.step_error.PostStepError.TheVariants as post
 
 -- The serial of a posting: the one in its words, or the first free one from there on.
 abbrev pub IsSerial : Bool → LinkFile → List Filed → ℕ → ℕ → Type 0

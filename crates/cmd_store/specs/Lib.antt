@@ -19,8 +19,5 @@ pub mod Scanned
 pub mod Purged
 pub mod Tossed
 pub mod Fault
-pub mod Written
-pub mod CharsetLine
-pub mod Letter
 pub mod Mailed
 pub mod MailPosted

@@ -1,7 +1,7 @@
 -- The lines in which `post`, `scan`, `purge` and `toss` report their work.
 use Rattle.std.specs.{Prelude.{ℕ, ◌+◌, ◌≤◌, List, ◌++◌, Vec, codes, decimal, vec_capacity, vec_len}, declared.alloc.Global.Global}
 use Rattle.{echo_addr.specs.{declared.address.Address.Address, Address.address_text}, echo_links.specs.Links.upper}
-use Rattle.{echo_packet.specs.declared.header.Header.Header, echo_toss.specs.declared.tally.Tally.Tally, cmd_store.specs.declared.lines.TheConstants.MOST_TALLY}
+use Rattle.{echo_packet.specs.declared.header.Header.Header, echo_steps.specs.declared.tally.Tally.Tally, cmd_store.specs.declared.lines.TheConstants.MOST_TALLY}
 
 -- The tag in upper case, and the id: the own address and the serial.
 abbrev pub posted_line : List ℕ → List ℕ → List ℕ

@@ -1,14 +1,9 @@
 -- Posting a mail on a store.
-use Rattle.std.specs.Prelude.{◌≡◌, List, ℕ, Result, Ok, Err}
-use Rattle.{base_file.specs.Base.Base, echo_links.specs.Links.LinkFile, echo_mail.specs.Mail.mail_in}
+use Rattle.std.specs.Prelude.{Result}
+use Rattle.{base_file.specs.Base.Base, echo_links.specs.Links.LinkFile}
 use Rattle.{cmd_status.specs.Devices.Output, model_steps.specs.SystemState.SystemState, cmd_store.specs.declared.drafting.NewMessage.NewMessage}
-use Rattle.cmd_store.specs.{FreeSerial.{PostsAs, PostsAsOn}, declared.{command_error.CommandError.CommandError, fault.LetterFault.LetterFault}}
-use Rattle.cmd_store.specs.{declared.{letter.Letter.Letter, mailed.MailWords.MailWords, mail_posting.PostMail.PostMail}, Letter.LetterAnswers, Mailed.IsPosting}
-
--- The letter of the mail with its request, or the fault of the mail.
-abbrev pub ReadsMail : MailWords → List ℕ → Result PostMail LetterFault → Type 0
-ReadsMail asked bytes (Ok mail) = LetterAnswers asked.charset asked.spare (mail_in bytes) (Ok mail.letter) × (mail.asked ≡ asked)
-ReadsMail asked bytes (Err fault) = LetterAnswers asked.charset asked.spare (mail_in bytes) (Err fault)
+use Rattle.cmd_store.specs.{FreeSerial.{PostsAs, PostsAsOn}, declared.command_error.CommandError.CommandError}
+use Rattle.cmd_store.specs.{declared.{letter.Letter.Letter, mailed.MailWords.MailWords}, Mailed.IsPosting}
 
 -- The correct result of posting the letter at a system.
 pub record MailsOn {A : Type 0} (letter : Letter) (asked : MailWords) (system : SystemState) (old new : Output) (result : Result A CommandError) : Type 0 where

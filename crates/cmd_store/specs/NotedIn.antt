@@ -2,9 +2,9 @@
 use Rattle.std.specs.{Prelude.{◌≡◌, ℕ, List, [], Option, Result, Vec}, declared.alloc.Global.Global}
 use Rattle.echo_addr.specs.declared.address.Address.{Address}
 use Rattle.{base_file.specs.Base.Base, echo_links.specs.Links.LinkFile, echo_packet.specs.declared.limits.Limits.Limits, base_store.specs.Store.StoreState}
-use Rattle.echo_toss.specs.{PacketsIn.{HoldsUnlessFailed, messages_answer, packet_answer, state_in, stop_in}, declared.step_error.StoppedToss.StoppedToss}
-use Rattle.echo_toss.specs.{declared.{step_error.TossStepError.TossStepError, tally.Tally.Tally}, Messages.TossesMessages, PacketSteps.PacketStep}
-use Rattle.{echo_toss.specs.Tallies.tally_of, cmd_store.specs.{Lines.HasTallyRoom, NotedPacket.{NotesPacket, NotesTaken}}}
+use Rattle.echo_steps.specs.{PacketsIn.{HoldsUnlessFailed, messages_answer, packet_answer, state_in, stop_in}, declared.step_error.StoppedToss.StoppedToss}
+use Rattle.echo_steps.specs.{declared.{step_error.TossStepError.TossStepError, tally.Tally.Tally}, Messages.TossesMessages, PacketSteps.PacketStep}
+use Rattle.{echo_steps.specs.Tallies.tally_of, cmd_store.specs.{Lines.HasTallyRoom, NotedPacket.{NotesPacket, NotesTaken}}}
 
 -- The packet at the front of a reader's bytes is tossed, from this base to the one that the store then holds. The notes
 -- on its messages follow the text.

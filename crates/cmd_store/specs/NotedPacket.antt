@@ -2,7 +2,7 @@
 use Rattle.std.specs.Prelude.{◌≡◌, ℕ, ◌⊎◌, List, ◌++◌, Option, Result, Ok, Err}
 use Rattle.echo_addr.specs.declared.address.Address.{Address}
 use Rattle.{echo_packet.specs.{declared.limits.Limits.Limits, Message.Message}, model_steps.specs.{SystemState.SystemState, Tossing.sender_of}}
-use Rattle.{echo_toss.specs.{declared.tally.Tally.Tally, Messages.HasTaken, PacketSteps.{HasTossedNone, TossFault, TossesSome}}, cmd_store.specs.Notes.notes_of}
+use Rattle.{echo_steps.specs.{declared.{fault.TossFault.TossFault, tally.Tally.Tally}, Messages.HasTaken, PacketSteps.{HasTossedNone, TossesSome}}, cmd_store.specs.Notes.notes_of}
 
 -- The call read and tossed messages, and the notes on them follow the text.
 pub record NotesTaken (limits : Limits) (sender : Address) (old : SystemState) (before : Option (List ℕ)) (tally : Tally) (new : SystemState) (text noted : List ℕ) : Type 0 where

@@ -2,7 +2,7 @@
 use Rattle.std.specs.Prelude.{ℕ, ◌==◌, List, ◌++◌, length, codes, decimal, if◌then◌else◌}
 use Rattle.echo_addr.specs.declared.address.Address.{Address}
 use Rattle.{echo_packet.specs.Packet.packet_bytes, model_steps.specs.{declared.packet.Packet.Packet, PacketFiles.PacketFile}}
-use Rattle.{echo_toss.specs.declared.counting.CountedPacket.CountedPacket, cmd_store.specs.Lines.{named_receiver, sent_line}}
+use Rattle.{echo_steps.specs.declared.counting.CountedPacket.CountedPacket, cmd_store.specs.Lines.{named_receiver, sent_line}}
 
 -- `zone.net.node.N.pkt`, for the receiver of the packet and the number of messages scanned before.
 abbrev pub packet_name : Address → ℕ → List ℕ

@@ -3,7 +3,7 @@ use Rattle.std.specs.Prelude.{◌≡◌, ℕ, List, Some, None, Result}
 use Rattle.{base_file.specs.Base.Base, echo_links.specs.Links.LinkFile}
 use Rattle.{cmd_status.specs.{declared.fault.Fault.{Fault, TheVariants.Post}, Devices.Output}, model_steps.specs.declared.fault.PostFault.PostFault}
 use Rattle.{model_steps.specs.{Posting.posted, SystemState.SystemState}, base_store.specs.Store.with_message, echo_text.specs.Ids.id_of}
-use Rattle.{echo_toss.specs.PacketsIn.state_in, cmd_store.specs.{declared.drafting.NewMessage.NewMessage, Lines.posted_line}}
+use Rattle.{echo_steps.specs.PacketsIn.state_in, cmd_store.specs.{declared.drafting.NewMessage.NewMessage, Lines.posted_line}}
 use Rattle.cmd_store.specs.{Drafts.{draft_given, refusal_given}, declared.command_error.CommandError.CommandError, Answered.AnswersAndCommits}
 
 -- A posting without a refusal at a system, with the line of its tag and id.

@@ -2,10 +2,10 @@
 use Rattle.std.specs.Prelude.{◌≡◌, ℕ, List, Result, Ok, Err}
 use Rattle.base_file.specs.declared.fault.BaseFault.TheVariants.{TooMany}
 use Rattle.cmd_status.specs.{declared.fault.Fault.{Fault, TheVariants.{Base, OutOfMemory, Post}}, Ended.IsCannotUse}
-use Rattle.{base_store.specs.declared.store_error.StoreError.StoreError, echo_toss.specs.declared.step_error.PostStepError.PostStepError}
+use Rattle.{base_store.specs.declared.store_error.StoreError.StoreError, echo_steps.specs.declared.step_error.PostStepError.PostStepError}
 use Rattle.cmd_store.specs.declared.command_error.CommandError.{CommandError}
 use Rattle.base_store.specs.declared.store_error.StoreError.TheVariants as error
-use Rattle.echo_toss.specs.declared.step_error.PostStepError.TheVariants as post
+use Rattle.echo_steps.specs.declared.step_error.PostStepError.TheVariants as post
 use Rattle.cmd_store.specs.declared.command_error.CommandError.TheVariants as stop
 
 abbrev pub post_stop : PostStepError → CommandError

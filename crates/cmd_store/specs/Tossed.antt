@@ -3,11 +3,11 @@ use Rattle.std.specs.{Prelude.{◌≡◌, ◌⊎◌, ◌++◌, ℕ, Bool, List, 
 use Rattle.base_file.specs.Base.{Base}
 use Rattle.{echo_links.specs.Links.LinkFile, echo_packet.specs.declared.limits.Limits.Limits, cmd_status.specs.declared.fault.Fault.Fault}
 use Rattle.cmd_status.specs.{declared.fault.Fault.TheVariants.TossMemory, Devices.{Device, Output}, Ended.{CannotPrint, PassesAll}, Lines.WritesFront}
-use Rattle.{base_store.specs.{Store.StoreState, declared.store_error.StoreError.StoreError}, echo_toss.specs.declared.step_error.StoppedToss.StoppedToss}
-use Rattle.{echo_toss.specs.{declared.{step_error.TossStepError.TossStepError, tally.Tally.Tally}, PacketsIn.state_in}, cmd_store.specs.Coming.Coming}
+use Rattle.{base_store.specs.{Store.StoreState, declared.store_error.StoreError.StoreError}, echo_steps.specs.declared.step_error.StoppedToss.StoppedToss}
+use Rattle.{echo_steps.specs.{declared.{step_error.TossStepError.TossStepError, tally.Tally.Tally}, PacketsIn.state_in}, cmd_store.specs.Coming.Coming}
 use Rattle.cmd_store.specs.{TossRuns.{IsRunPrinted, TossesEachBy, run_begun}, TossedPacket.{TossRun, TossesPacketBy, fault_of}, Lines.tally_line}
 use Rattle.cmd_store.specs.declared.command_error.CommandError.{CommandError, TheVariants.{Met, Store}}
-use Rattle.echo_toss.specs.declared.step_error.TossStepError.TheVariants as toss
+use Rattle.echo_steps.specs.declared.step_error.TossStepError.TheVariants as toss
 
 -- A system with this base tosses the packet files within these limits, up to the first fault, and then has the next
 -- base. If the answers are honest, these are the given files.

@@ -2,9 +2,9 @@
 use Rattle.std.specs.Prelude.{◌≡◌, ℕ, ◌⊎◌, Bool, true, false, List, ◌++◌, Option, Some, None, Result, Ok, Err}
 use Rattle.{echo_packet.specs.declared.limits.Limits.Limits, cmd_status.specs.{Devices.Device, declared.fault.Fault.Fault}}
 use Rattle.{cmd_status.specs.declared.fault.Fault.TheVariants.{NotForUs, OutOfMemory, Packet, TossMemory}, model_steps.specs.SystemState.SystemState}
-use Rattle.echo_toss.specs.{declared.{fault.TossCause.TossCause, tally.Tally.Tally}, PacketSteps.{CountsToss, PacketStep, TossFault}}
+use Rattle.echo_steps.specs.{declared.{fault.{TossCause.TossCause, TossFault.TossFault}, tally.Tally.Tally}, PacketSteps.{CountsToss, PacketStep}}
 use Rattle.cmd_store.specs.{NotedPacket.NotesPacket, Lines.tally_line}
-use Rattle.echo_toss.specs.declared.fault.TossCause.TheVariants as stop
+use Rattle.echo_steps.specs.declared.fault.TossCause.TheVariants as stop
 
 -- A run of `toss`: the limits of packets, the current system, and the lines until now.
 pub record TossRun : Type 0 where

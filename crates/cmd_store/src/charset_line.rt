@@ -1,46 +1,29 @@
-//! The line that names the charset of a message.
-ghost use Rattle.std.specs.Prelude.{◌≡◌, ◌++◌, IfOk, OnOk};
-ghost use Rattle.cmd_store.specs.CharsetLine.{charset_line, is_wide, level, with_line};
-
+//! The line that names the charset of a message (FTS-5003).
 use echo_charset::Charset;
 use std::alloc::{AllocError, Global};
 
+/// The text, after the charset line if the message has a byte above 7F.
 pub(crate) fn with_line(
     alloc: Global,
     charset: Charset,
     wide: bool,
     text: &[u8],
-) -> Result<Vec<u8>, AllocError>
-    ensures { IfOk result (λ bytes. bytes.items ≡ with_line charset wide text.now) }
-{
+) -> Result<Vec<u8>, AllocError> {
     let mut bytes = Vec::new(alloc);
     if wide {
-        push_line(&mut bytes, charset)?;
+        bytes.extend_from_slice(b"\x01CHRS: ")?;
+        bytes.extend_from_slice(charset.name())?;
+        bytes.extend_from_slice(&[b' ', level(charset), b'\r'])?;
     }
     bytes.extend_from_slice(text)?;
     Ok(bytes)
 }
 
-fn push_line(bytes: &mut Vec<u8>, charset: Charset) -> Result<(), AllocError>
-    ensures { OnOk result (bytes.new.items ≡ bytes.old.items ++ charset_line charset) }
-{
-    bytes.extend_from_slice(b"\x01CHRS: ")?;
-    bytes.extend_from_slice(charset.name())?;
-    bytes.extend_from_slice(&[b' ', level(charset), b'\r'])
-}
-
-fn level(charset: Charset) -> u8
-    ensures { result ≡ level charset }
-{
+// As a digit: 1 of seven bits, 2 of eight, 4 of UTF-8.
+fn level(charset: Charset) -> u8 {
     match charset {
         Charset::Ascii => b'1',
         Charset::Utf8 => b'4',
         _ => b'2',
     }
-}
-
-pub(crate) fn is_wide(bytes: &[u8]) -> bool
-    ensures { result ≡ is_wide bytes.now }
-{
-    bytes.iter().any(|b| *b >= 128)
 }

@@ -1,3 +1,5 @@
+//! The packet files of a toss, opened one after another.
+
 ghost use Rattle.std.specs.Prelude.{List, map};
 ghost use Rattle.cmd_store.specs.Coming.{Coming, Holds, OpensNext};
 

@@ -1,3 +1,5 @@
+//! Why a command on a store stopped.
+
 ghost use Rattle.std.specs.Prelude.{◌≡◌};
 ghost use Rattle.{cmd_status.specs.declared.fault.Fault.TheVariants.OutOfMemory, cmd_store.specs.Stops.{IsReportedAs, post_stop}};
 ghost use Rattle.cmd_store.specs.declared.command_error.CommandError.TheVariants as stop;
@@ -5,7 +7,7 @@ ghost use Rattle.cmd_store.specs.declared.command_error.CommandError.TheVariants
 use base_file::BaseFault;
 use base_store::StoreError;
 use cmd_status::Fault;
-use echo_toss::PostStepError;
+use echo_steps::PostStepError;
 use std::alloc::{AllocError, AllocFailed};
 use thiserror::Error;
 

@@ -1,3 +1,5 @@
+//! The faults of a mail that is posted.
+
 ghost use Rattle.std.specs.Prelude.{◌≡◌};
 ghost use Rattle.cmd_store.specs.{declared.fault.LetterFault.TheVariants.Memory, Fault.{letter_fault, letter_status}};
 

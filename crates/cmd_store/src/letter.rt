@@ -1,14 +1,11 @@
 //! The words and the body that a mail says.
-ghost use Rattle.std.specs.{Prelude.{◌≡◌, [], codes, option_copied, unwrap_or, IfOk}, Option.option_or};
-ghost use Rattle.echo_mail.specs.{Area.area_in, Body.{text_of, value_in}};
-ghost use Rattle.{echo_mail.specs.Mail.mail_in, cmd_store.specs.Letter.{IsArea, IsBody, LetterAnswers, LetterOf, answered_id, are_wide, field, true_id}};
 
-use crate::charset_line::{is_wide, with_line};
+use crate::charset_line::with_line;
 use crate::fault::LetterFault;
 use crate::writing::{bytes_in, name_in, words_in};
 use echo_addr::Items;
 use echo_charset::Charset;
-use echo_mail::{Field, Mail, body_text, exported_id, field_value, named_area, read_mail};
+use echo_mail::{Mail, body_text, exported_id, field_value, named_area, read_mail};
 use model_steps::is_reply_id;
 use std::alloc::{AllocError, Global};
 
@@ -33,38 +30,28 @@ pub struct Letter {
     pub body: Items<u8>,
 }
 
-/// What a mail says, in the bytes of a charset, and the words for what it lacks.
-pub fn read_letter(
+/// What a mail says, in the bytes of a charset, and the words for what it lacks. A newsgroup article has no To, but may
+/// have X-Comment-To.
+pub(crate) fn read_letter(
     alloc: Global,
     bytes: &[u8],
     spare: MailDefaults<'_>,
     charset: Charset,
-) -> Result<Letter, LetterFault>
-    ensures { LetterAnswers charset spare.entry (mail_in bytes.now) result }
-{
+) -> Result<Letter, LetterFault> {
     let mail = read_mail(alloc, bytes)?;
-    letter_of(alloc, &mail, spare, charset)
-}
-
-fn letter_of(
-    alloc: Global,
-    mail: &Mail,
-    spare: MailDefaults<'_>,
-    charset: Charset,
-) -> Result<Letter, LetterFault>
-    ensures { LetterOf charset spare.entry mail.now result }
-{
     let fields = mail.fields.as_slice();
-    let tag = tag_in(alloc, mail, spare.area)?;
-    let to = addressee_in(fields);
+    let tag = tag_in(alloc, &mail, spare.area)?;
+    let to = field_value(fields, b"To").or(field_value(fields, b"X-Comment-To"));
     let to_name = name_in(alloc, charset, to, spare.to, LetterFault::NoTo)?;
     let from = field_value(fields, b"From");
     let from_name = name_in(alloc, charset, from, spare.from, LetterFault::NoFrom)?;
     let words = field_value(fields, b"Subject");
     let subject = words_in(alloc, charset, words, spare.subject, LetterFault::NoSubject)?;
-    let said = body_in(alloc, mail, charset)?;
-    let reply = reply_in(alloc, mail, spare.reply)?;
-    let wide = are_wide(&to_name, &from_name, &subject, &said);
+    let said = bytes_in(alloc, charset, body_text(alloc, &mail)?.as_str())?;
+    let reply = reply_in(alloc, &mail, spare.reply)?;
+    let wide = [&to_name, &from_name, &subject, &said]
+        .iter()
+        .any(|part| part.as_slice().iter().any(|b| *b >= 128));
     let body = with_line(alloc, charset, wide, said.as_slice())?;
     Ok(Letter {
         tag,
@@ -76,73 +63,22 @@ fn letter_of(
     })
 }
 
-fn are_wide(to: &Items<u8>, from: &Items<u8>, subject: &Items<u8>, said: &Items<u8>) -> bool
-    ensures { result ≡ are_wide to.now from.now subject.now said.now }
-{
-    is_wide(to.as_slice())
-        || is_wide(from.as_slice())
-        || is_wide(subject.as_slice())
-        || is_wide(said.as_slice())
+fn tag_in(alloc: Global, mail: &Mail, word: Option<&str>) -> Result<Items<u8>, LetterFault> {
+    let tag = match named_area(mail.fields.as_slice()) {
+        Some(tag) => tag,
+        None => word.ok_or(LetterFault::NoArea)?.as_bytes(),
+    };
+    Ok(Items::new(Vec::from_slice(alloc, tag)?))
 }
 
-fn addressee_in(fields: &[Field]) -> Option<&[u8]>
-    ensures { option_copied result ≡ option_or (value_in fields.now (codes "To")) (value_in fields.now (codes "X-Comment-To")) }
-{
-    match field_value(fields, b"To") {
-        Some(to) => Some(to),
-        None => field_value(fields, b"X-Comment-To"),
+// The id of the message that the mail answers, or else the word, or else none.
+fn reply_in(alloc: Global, mail: &Mail, word: Option<&str>) -> Result<Items<u8>, AllocError> {
+    if let Some(value) = field_value(mail.fields.as_slice(), b"In-Reply-To") {
+        if let Some(id) = exported_id(alloc, value)? {
+            if is_reply_id(id.as_slice()) {
+                return Ok(id);
+            }
+        }
     }
-}
-
-fn tag_in(alloc: Global, mail: &Mail, word: Option<&str>) -> Result<Items<u8>, LetterFault>
-    ensures { IsArea (option_or (area_in mail.now.fields) (option_copied word.entry)) result }
-{
-    match (named_area(mail.fields.as_slice()), word) {
-        (Some(tag), _) => Ok(Items::new(Vec::from_slice(alloc, tag)?)),
-        (None, Some(tag)) => Ok(Items::new(Vec::from_slice(alloc, tag.as_bytes())?)),
-        (None, None) => Err(LetterFault::NoArea),
-    }
-}
-
-fn body_in(alloc: Global, mail: &Mail, charset: Charset) -> Result<Items<u8>, LetterFault>
-    ensures { IsBody charset (text_of mail.now) result }
-{
-    let text = body_text(alloc, mail)?;
-    bytes_in(alloc, charset, text.as_str())
-}
-
-fn reply_in(alloc: Global, mail: &Mail, word: Option<&str>) -> Result<Items<u8>, AllocError>
-    ensures { IfOk result (λ id. id ≡ unwrap_or (option_or (answered_id (field mail.now (codes "In-Reply-To"))) (option_copied word.entry)) []) }
-{
-    match answered_id(alloc, field_value(mail.fields.as_slice(), b"In-Reply-To"))? {
-        Some(id) => Ok(id),
-        None => Ok(Items::new(Vec::from_slice(alloc, word_bytes(word))?)),
-    }
-}
-
-fn word_bytes(word: Option<&str>) -> &[u8]
-    ensures { result.now ≡ unwrap_or (option_copied word.entry) [] }
-{
-    match word {
-        Some(word) => word.as_bytes(),
-        None => &[],
-    }
-}
-
-fn answered_id(alloc: Global, value: Option<&[u8]>) -> Result<Option<Items<u8>>, AllocError>
-    ensures { IfOk result (λ id. id ≡ answered_id (option_copied value.entry)) }
-{
-    match value {
-        Some(value) => Ok(true_id(exported_id(alloc, value)?)),
-        None => Ok(None),
-    }
-}
-
-fn true_id(id: Option<Items<u8>>) -> Option<Items<u8>>
-    ensures { result ≡ true_id id }
-{
-    match id {
-        Some(id) if is_reply_id(id.as_slice()) => Some(id),
-        _ => None,
-    }
+    Ok(Items::new(Vec::from_slice(alloc, word.unwrap_or("").as_bytes())?))
 }

@@ -5,8 +5,8 @@ ghost use Rattle.cmd_store.specs.Lines.{HasTallyRoom, posted_line, purged_line, 
 
 use echo_addr::Address;
 use echo_charset::written;
+use echo_steps::Tally;
 use echo_text::MsgId;
-use echo_toss::Tally;
 use itoa::Buffer;
 use std::alloc::{AllocError, Global};
 use std::io::Write;

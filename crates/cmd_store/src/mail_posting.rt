@@ -1,5 +1,7 @@
-ghost use Rattle.std.specs.Prelude.{false};
-ghost use Rattle.{echo_toss.specs.PacketsIn.state_in, cmd_store.specs.{Bounded.AddsMailed, MailPosted.{Mails, MailsOn, ReadsMail}}};
+//! The command `post --mail` on a store.
+
+ghost use Rattle.std.specs.Prelude.{◌≡◌, false, IfOk};
+ghost use Rattle.{echo_steps.specs.PacketsIn.state_in, cmd_store.specs.{Bounded.AddsMailed, MailPosted.{Mails, MailsOn}}};
 
 use crate::fault::LetterFault;
 use crate::letter::{Letter, read_letter};
@@ -24,7 +26,7 @@ impl<'w> PostMail<'w> {
         mail: &[u8],
         asked: MailWords<'w>,
     ) -> Result<PostMail<'w>, LetterFault>
-        ensures { ReadsMail asked.entry mail.now result }
+        ensures { IfOk result (λ read. read.asked ≡ asked.entry) }
     {
         let letter = read_letter(alloc, mail, asked.spare, asked.charset)?;
         Ok(PostMail { letter, asked })

@@ -1,8 +1,10 @@
+//! Why a packet was not tossed whole, as it is reported.
+
 ghost use Rattle.std.specs.Prelude.{◌≡◌};
 ghost use Rattle.cmd_store.specs.TossedPacket.{fault_of};
 
 use cmd_status::Fault;
-use echo_toss::TossCause;
+use echo_steps::TossCause;
 
 /// Why a packet was not tossed whole, as it is reported.
 pub fn toss_fault<'a>(cause: TossCause) -> Fault<'a>

@@ -5,7 +5,7 @@ ghost use Rattle.cmd_store.specs.{PacketLines.counted_line, PacketLines.line_sen
 use crate::lines::push_sent;
 use echo_addr::Address;
 use echo_packet::Header;
-use echo_toss::CountedPacket;
+use echo_steps::CountedPacket;
 use model_steps::Packet;
 use std::alloc::{AllocError, Global};
 

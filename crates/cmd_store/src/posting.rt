@@ -1,7 +1,9 @@
+//! The command `post` on a store.
+
 ghost use Rattle.std.specs.Prelude.{false, IfErr, IsErrOf, OnOk};
 ghost use Rattle.{disk_io.specs.Disk.Honestly, base_file.specs.Base.Base, cmd_status.specs.Devices.output_of};
 ghost use Rattle.{base_store.specs.{Store.{Commits, HasStoreCause, MayCommit}, declared.store_error.StoreError.TheVariants.TooMany}, echo_text.specs.Ids.id_of};
-ghost use Rattle.{echo_toss.specs.PacketsIn.state_in, cmd_store.specs.Answered.{CommitsNoneWhereMet, HasCommitted, LooksWhereMet, MayMake, PrintsAll}};
+ghost use Rattle.{echo_steps.specs.PacketsIn.state_in, cmd_store.specs.Answered.{CommitsNoneWhereMet, HasCommitted, LooksWhereMet, MayMake, PrintsAll}};
 ghost use Rattle.cmd_store.specs.{Lines.posted_line, Bounded.{AddsPosted, IsStoppedFull, IsUncommitted}, FreeSerial.{PostsAs, PostsAsOn}, Stops.store_answer};
 
 use crate::command::StoreCommand;

@@ -1,6 +1,8 @@
+//! The command `reply` on a store.
+
 ghost use Rattle.std.specs.Prelude.{false, IfErr, IsErrOf, OnOk, slice_get};
 ghost use Rattle.{disk_io.specs.Disk.Honestly, base_file.specs.Base.Base};
-ghost use Rattle.{cmd_status.specs.Devices.output_of, base_store.specs.Store.{HasStoreCause, LooksOn}, echo_toss.specs.PacketsIn.state_in};
+ghost use Rattle.{cmd_status.specs.Devices.output_of, base_store.specs.Store.{HasStoreCause, LooksOn}, echo_steps.specs.PacketsIn.state_in};
 ghost use Rattle.cmd_store.specs.{Answered.{CommitsNoneWhereMet, HasCommitted, MayMake}, Bounded.{AddsReply, IsStoppedFull}, Replied.{FindsOn, Replies, RepliesOn}};
 ghost use Rattle.cmd_store.specs.Stops.{store_answer};
 

@@ -1,3 +1,5 @@
+//! The lines that a scan prints.
+
 ghost use Rattle.std.specs.{Prelude.{◌≡◌, Ok}, List.flat_map};
 ghost use Rattle.{cmd_status.specs.Devices.output_of, cmd_store.specs.PacketLines.counted_line};
 ghost use Rattle.cmd_store.specs.{Answered.{AnswersOn, AreLines, RefusesNone}, Stops.store_answer};
@@ -6,7 +8,7 @@ use crate::command_error::CommandError;
 use crate::packet_lines::push_counted;
 use cmd_status::print_rest;
 use disk_io::Sink;
-use echo_toss::CountedPacket;
+use echo_steps::CountedPacket;
 use std::alloc::Global;
 
 /// Prints a line for each counted packet.

@@ -2,13 +2,13 @@
 ghost use Rattle.std.specs.Prelude.{◌≡◌, ◌↔◌, true, IfErr, IsErrOf, IsTrue, OnOk};
 ghost use Rattle.{disk_io.specs.Disk.Honestly, base_file.specs.Base.Base};
 ghost use Rattle.{model_steps.specs.declared.fault.PostFault.TheVariants.KnownSerial, base_store.specs.Store.{CommitsNothing, GoesOn, HasStoreCause}};
-ghost use Rattle.{base_store.specs.declared.store_error.StoreError.TheVariants.TooMany, echo_toss.specs.declared.step_error.PostStepError.TheVariants.Refused};
-ghost use Rattle.{echo_toss.specs.{Stores.{LooksWhereRefused, post_answer}, Bounds.IsPastBound}, cmd_store.specs.{Bounded.AddsDraft, FreeSerial.FilesAs}};
+ghost use Rattle.{base_store.specs.declared.store_error.StoreError.TheVariants.TooMany, echo_steps.specs.declared.step_error.PostStepError.TheVariants.Refused};
+ghost use Rattle.{echo_steps.specs.{Stores.{LooksWhereRefused, post_answer}, Bounds.IsPastBound}, cmd_store.specs.{Bounded.AddsDraft, FreeSerial.FilesAs}};
 
 use crate::drafting::NewMessage;
 use base_store::Store;
 use echo_links::LinkFile;
-use echo_toss::{PostStepError, post_step};
+use echo_steps::{PostStepError, post_step};
 use model_steps::{Draft, PostFault};
 use std::alloc::Global;
 

@@ -3,10 +3,10 @@ ghost use Rattle.std.specs.Prelude.{◌≡◌, ◌≢◌, ◌++◌, IfErr, IsErr
 ghost use Rattle.{base_file.specs.Base.Base, disk_io.specs.Disk.Honestly};
 ghost use Rattle.base_store.specs.{Store.{CommitsNothing, HasStoreCause}, declared.store_error.StoreError.TheVariants.TooMany};
 ghost use Rattle.{model_steps.specs.declared.outcome.Outcome.TheVariants.Filed, cmd_store.specs.NotedIn.{CanBegin, NotesMessagesIn, NotesPacketIn}};
-ghost use Rattle.echo_toss.specs.{PacketsIn.{GoesOnUnlessFailed, messages_answer, packet_answer, stop_in, toss_answer}, Bounds.{AddsReceived, IsPastBound}};
-ghost use Rattle.{echo_toss.specs.{Messages.CountsStop, PacketSteps.CountsToss}, cmd_store.specs.{Lines.HasTallyRoom, Notes.note_of}};
-ghost use Rattle.echo_toss.specs.declared.fault.TossCause.TheVariants as cause;
-ghost use Rattle.echo_toss.specs.declared.step_error.TossStepError.TheVariants as toss;
+ghost use Rattle.echo_steps.specs.{PacketsIn.{GoesOnUnlessFailed, messages_answer, packet_answer, stop_in, toss_answer}, Bounds.{AddsReceived, IsPastBound}};
+ghost use Rattle.{echo_steps.specs.{Messages.CountsStop, PacketSteps.CountsToss}, cmd_store.specs.{Lines.HasTallyRoom, Notes.note_of}};
+ghost use Rattle.echo_steps.specs.declared.fault.TossCause.TheVariants as cause;
+ghost use Rattle.echo_steps.specs.declared.step_error.TossStepError.TheVariants as toss;
 
 use crate::lines::MOST_TALLY;
 use crate::note::note_line;
@@ -15,7 +15,7 @@ use disk_io::Source;
 use echo_addr::Address;
 use echo_links::LinkFile;
 use echo_packet::{Buffers, HEADER_BYTES, Limits, Packed, read_next};
-use echo_toss::{
+use echo_steps::{
     Outcome, StoppedToss, Tally, TossCause, TossStepError, check_destination, toss_step,
 };
 use std::alloc::{AllocError, Global};

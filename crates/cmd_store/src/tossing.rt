@@ -1,9 +1,11 @@
+//! The command `toss` on a store.
+
 ghost use Rattle.std.specs.Prelude.{◌≡◌, false, IfErr, IsErrOf, OnOk};
 ghost use Rattle.{disk_io.specs.Disk.Honestly, base_file.specs.Base.Base};
 ghost use Rattle.{cmd_status.specs.Devices.{device_of, output_of}, base_store.specs.Store.{CommitsNothing, GoesOn, HasStoreCause}};
 ghost use Rattle.cmd_store.specs.{Tossed.{PrintsRun, ReportsIn, Tosses, TossesFiles, TossesIn, TossesNext, TossesOn, TossesTo}, Lines.HasTallyRoom};
 ghost use Rattle.cmd_store.specs.{TossedPacket.TossRun, Answered.{CommitsNoneWhereMet, MayMake}, Bounded.IsStoppedFull, Stops.store_answer};
-ghost use Rattle.echo_toss.specs.Bounds.{AddsReceived, IsPastBound};
+ghost use Rattle.echo_steps.specs.Bounds.{AddsReceived, IsPastBound};
 
 use crate::coming::PacketFiles;
 use crate::command::StoreCommand;
@@ -16,7 +18,7 @@ use cmd_status::{Fault, print_rest};
 use disk_io::{Sink, Source};
 use echo_links::LinkFile;
 use echo_packet::Limits;
-use echo_toss::{StoppedToss, Tally, TossStepError, toss_packet};
+use echo_steps::{StoppedToss, Tally, TossStepError, toss_packet};
 use std::alloc::Global;
 use std::marker::PhantomData;
 

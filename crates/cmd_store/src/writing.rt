@@ -1,7 +1,4 @@
 //! What a mail says, in the bytes of a charset.
-ghost use Rattle.std.specs.Prelude.{option_copied};
-ghost use Rattle.cmd_store.specs.Written.{IsSaid, IsWritten, name_or, words_or};
-
 use crate::fault::LetterFault;
 use echo_addr::Items;
 use echo_charset::Charset;
@@ -15,51 +12,33 @@ pub(crate) fn name_in(
     value: Option<&[u8]>,
     word: Option<&str>,
     lack: LetterFault,
-) -> Result<Items<u8>, LetterFault>
-    ensures { IsWritten charset (name_or (option_copied value.entry) (option_copied word.entry)) lack result }
-{
+) -> Result<Items<u8>, LetterFault> {
     match value {
         Some(value) => bytes_in(alloc, charset, person_name(alloc, value)?.as_str()),
-        None => word_in(alloc, charset, word, lack),
+        None => bytes_in(alloc, charset, word.ok_or(lack)?),
     }
 }
 
+/// The text of a field, or the default if there is no value.
 pub(crate) fn words_in(
     alloc: Global,
     charset: Charset,
     value: Option<&[u8]>,
     word: Option<&str>,
     lack: LetterFault,
-) -> Result<Items<u8>, LetterFault>
-    ensures { IsWritten charset (words_or (option_copied value.entry) (option_copied word.entry)) lack result }
-{
+) -> Result<Items<u8>, LetterFault> {
     match value {
         Some(value) => bytes_in(alloc, charset, decoded_words(alloc, value)?.as_str()),
-        None => word_in(alloc, charset, word, lack),
+        None => bytes_in(alloc, charset, word.ok_or(lack)?),
     }
 }
 
-fn word_in(
-    alloc: Global,
-    charset: Charset,
-    word: Option<&str>,
-    lack: LetterFault,
-) -> Result<Items<u8>, LetterFault>
-    ensures { IsWritten charset (option_copied word.entry) lack result }
-{
-    match word {
-        Some(text) => bytes_in(alloc, charset, text),
-        None => Err(lack),
-    }
-}
-
+/// The text in the bytes of the charset. It is refused if that lacks a character of it.
 pub(crate) fn bytes_in(
     alloc: Global,
     charset: Charset,
     text: &str,
-) -> Result<Items<u8>, LetterFault>
-    ensures { IsSaid charset text.now result }
-{
+) -> Result<Items<u8>, LetterFault> {
     match charset.encode_text(alloc, text)? {
         Some(bytes) => Ok(Items::new(bytes)),
         None => Err(LetterFault::NotInCharset),

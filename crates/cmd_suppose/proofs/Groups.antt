@@ -6,9 +6,9 @@ use Rattle.std.{proofs.lemmas.List.Elements.{Contains-append_left, Contains-get_
 use Rattle.{std.specs.{List.Sorted.IsStrictlySortedBy, Ordering.is_lt}, echo_addr.specs.declared.address.Address.Address, echo_links.specs.LinkLines.no_address}
 use Rattle.{echo_links.specs.Links.LinkFile, echo_filed.specs.Sets.address_before, model_graph.specs.Walk.{IsAt, Reaches, Walk}}
 use Rattle.{model_graph.proofs.Members.{Among-from_Contains, Contains-from_Among, Reaches-trans}, model_run.proofs.Lists.{Among-filter_from, Among-filter_to}}
-use Rattle.{model_run.{proofs.Places.lister-carries, specs.Tidy.{carries, lists}}, echo_net.specs.{declared.link.Link.Link, Drawn.{back, has_link}}}
-use Rattle.echo_net.{specs.{Faults.AreInOrder, Nets.link, Rows.system_at}, proofs.{Drawings.links_held, Owned.{before_back, in_order_from_sorted}}}
-use Rattle.echo_net.proofs.Orders.{address_order, address_total, at_place, before_is, earlier_less, not_before_itself, one_place}
+use Rattle.{model_run.{proofs.Places.lister-carries, specs.Tidy.{carries, lists}}, echo_verdict.specs.{declared.link.Link.Link, Drawn.{back, has_link}}}
+use Rattle.echo_verdict.{specs.{Faults.AreInOrder, Nets.link, Rows.system_at}, proofs.{Drawings.links_held, Owned.{before_back, in_order_from_sorted}}}
+use Rattle.echo_verdict.proofs.Orders.{address_order, address_total, at_place, before_is, earlier_less, not_before_itself, one_place}
 use Rattle.cmd_suppose.specs.Parts.{AreBothWays, AreGrouped, AreLabels, AreOthers, ArePaired, AreParts, AreSettled, IsGroup, IsLargestAt, JoinsEnds, JoinsLabels, linked_both, relabeled}
 
 -- links that both ends list

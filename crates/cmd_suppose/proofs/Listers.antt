@@ -4,8 +4,8 @@ use Rattle.{std.proofs.lemmas.Bool.{and_from, and_parts, cases_Bool, ne_eqb}, mo
 use Rattle.std.{proofs.lemmas.List.Elements.{Contains-append_cases, Contains-append_left, Contains-append_right}, specs.{Prelude.Contains, List.flat_map}}
 use Rattle.{echo_addr.specs.declared.address.Address.Address, echo_links.specs.Links.{LinkFile, is_link, same_address}, model_graph.specs.Walk.Among}
 use Rattle.model_run.proofs.Lists.{any-from, any-to, Among-filter_from, Among-filter_to, Among-flat_map_from, Among-flat_map_to, Among-map_to, Among-map_from}
-use Rattle.{model_run.specs.Tidy.lists, echo_net.{specs.{declared.link.Link.Link, Drawn.{back, has_address}, Nets.link}, proofs.Drawings.address_held}}
-use Rattle.{echo_net.proofs.Orders.same_itself, cmd_suppose.specs.Listings.{IsListedIn, IsListing, is_listed, unknown_from}}
+use Rattle.{model_run.specs.Tidy.lists, echo_verdict.{specs.{declared.link.Link.Link, Drawn.{back, has_address}, Nets.link}, proofs.Drawings.address_held}}
+use Rattle.{echo_verdict.proofs.Orders.same_itself, cmd_suppose.specs.Listings.{IsListedIn, IsListing, is_listed, unknown_from}}
 
 -- links the other way
 turned_held : (links : List Link) (l : Link) → Contains (map back links) l ↔ Contains links (back l)

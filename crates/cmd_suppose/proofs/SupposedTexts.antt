@@ -5,8 +5,8 @@ use Rattle.{std.specs.List.{AllByRecursion, AllZip, flat_map, Sorted.IsStrictlyS
 use Rattle.echo_links.specs.{declared.fault.LinkFault.LinkFault, Found.address_order, LinkLines.LinksOf, Links.{Area, LinkFile, upper}}
 use Rattle.cmd_status.{proofs.Giving.read_more, specs.{declared.fault.Fault.Fault, Ended.IsOutOfMemory, Inputs.{AreLinkFiles, IsLinkFault}}}
 use Rattle.{model_graph.proofs.Members.{Among-from_Contains, Contains-from_Among}, model_run.specs.Tidy.lists}
-use Rattle.{model_run.proofs.Lists.{Among-filter_from, Among-filter_to}, echo_net.specs.{declared.link.Link.Link, Drawn.has_address, Faults.IsCarried}}
-use Rattle.{echo_net.{specs.Nets.{link, systems}, proofs.Drawings.address_held}, cmd_print.specs.Pushed.Pushes, cmd_suppose.specs.Assuming.link_word}
+use Rattle.{model_run.proofs.Lists.{Among-filter_from, Among-filter_to}, echo_verdict.specs.{declared.link.Link.Link, Drawn.has_address, Faults.IsCarried}}
+use Rattle.{echo_verdict.{specs.Nets.{link, systems}, proofs.Drawings.address_held}, cmd_print.specs.Pushed.Pushes, cmd_suppose.specs.Assuming.link_word}
 use Rattle.cmd_suppose.{specs.{Leaving.stays, Listings.{IsListedIn, IsListing}}, proofs.Zips.{zip_from, zip_next, zip_to}}
 use Rattle.cmd_suppose.specs.SupposedFiles.{AddsSupposed, AreExactly, AreMissing, AreSupposed, AreSupposedLines, AreUnseen, IsMissing, IsSupposedFile, ReadsMore, Supposes, SupposesIn, area_line, has_supposed, line_of, system_line, unseen_line, unseen_note}
 use Rattle.echo_links.specs.declared.fault.LinkFault.TheVariants as link

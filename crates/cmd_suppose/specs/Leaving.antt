@@ -1,7 +1,7 @@
 -- Link files as if some systems had none and no file listed them.
 use Rattle.std.specs.{Prelude.{◌≡◌, ◌&&◌, ◌||◌, ℕ, Bool, true, if◌then◌else◌, List, [], ◌∷◌, ◌++◌, Option, filter, find, not}, List.{flat_map, list_any}}
 use Rattle.{echo_addr.specs.declared.address.Address.Address, echo_links.specs.Links.{Area, LinkFile, has_area, is_link, links_of, same_address}}
-use Rattle.{echo_net.specs.Drawn.has_address, cmd_status.specs.Inputs.AreLinkFiles, cmd_suppose.specs.SupposedFiles.{area_line, system_line}}
+use Rattle.{echo_verdict.specs.Drawn.has_address, cmd_status.specs.Inputs.AreLinkFiles, cmd_suppose.specs.SupposedFiles.{area_line, system_line}}
 
 -- Whether the address is not left out.
 abbrev pub stays : List Address → Address → Bool

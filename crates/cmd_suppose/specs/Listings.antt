@@ -1,7 +1,7 @@
 -- The systems that an area lists, and those that list them.
 use Rattle.std.specs.{Prelude.{◌↔◌, ℕ, Bool, IsTrue, List, Contains, filter, map, not}, declared.cmp.Ordering.Ordering, Ordering.ordering_then, List.list_any}
 use Rattle.{echo_addr.specs.declared.address.Address.Address, echo_links.specs.{Found.address_order, Links.{LinkFile, is_link}}, model_run.specs.Tidy.lists}
-use Rattle.echo_net.specs.{declared.link.Link.Link, Drawn.has_address, Nets.link}
+use Rattle.echo_verdict.specs.{declared.link.Link.Link, Drawn.has_address, Nets.link}
 
 -- Whether some file lists the address in the area.
 abbrev pub is_listed : List LinkFile → List ℕ → Address → Bool

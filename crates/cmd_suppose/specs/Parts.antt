@@ -2,8 +2,8 @@
 use Rattle.std.specs.Prelude.{◌≡◌, ◌<◌, ◌≤◌, ◌==◌, ◌&&◌, ◌⊎◌, ◌↔◌, ℕ, Bool, true, IsTrue, if◌then◌else◌, List, [], ◌∷◌, Contains, length, slice_index, slice_index_or}
 use Rattle.std.specs.List.{remove}
 use Rattle.{echo_addr.specs.declared.address.Address.Address, echo_links.specs.Links.LinkFile, echo_filed.specs.Sets.address_before}
-use Rattle.{model_graph.specs.{Rows.IsAscending, Walk.{IsAt, Reaches}}, model_run.specs.Tidy.{Carries, lists}, echo_net.specs.declared.link.Link.Link}
-use Rattle.echo_net.specs.{Faults.AreInOrder, Rows.system_at}
+use Rattle.{model_graph.specs.{Rows.IsAscending, Walk.{IsAt, Reaches}}, model_run.specs.Tidy.{Carries, lists}, echo_verdict.specs.declared.link.Link.Link}
+use Rattle.echo_verdict.specs.{Faults.AreInOrder, Rows.system_at}
 
 -- Each of the two lists the other.
 abbrev pub linked_both : List LinkFile → List ℕ → Address → Address → Bool

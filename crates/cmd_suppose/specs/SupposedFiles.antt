@@ -3,7 +3,7 @@ use Rattle.std.specs.Prelude.{◌≡◌, ◌↔◌, ℕ, Bool, true, false, IsTr
 use Rattle.std.specs.List.{AllByRecursion, AllZip, flat_map, list_any, Sorted.IsStrictlySortedBy}
 use Rattle.echo_addr.specs.declared.address.Address.{Address}
 use Rattle.{echo_addr.specs.Address.address_text, echo_links.specs.{Found.address_order, Links.{Area, LinkFile, has_area}}, model_run.specs.Tidy.lists}
-use Rattle.{echo_net.specs.{Faults.IsCarried, Nets.systems}, cmd_status.specs.Inputs.AreLinkFiles, cmd_suppose.specs.{Assuming.link_word, Listings.is_listed}}
+use Rattle.{echo_verdict.specs.{Faults.IsCarried, Nets.systems}, cmd_status.specs.Inputs.AreLinkFiles, cmd_suppose.specs.{Assuming.link_word, Listings.is_listed}}
 
 -- Exactly these addresses, ascending, each once.
 pub record AreExactly (IsMember : Address → Type 0) (all : List Address) : Type 0 where

@@ -1,6 +1,6 @@
 //! Link files as if some systems had none and no file listed them.
 ghost use Rattle.std.specs.{Prelude.{◌≡◌, ◌++◌, ◌⊎◌, IfErr, IfOk, OnOk, Some, filter, slice_get}, List.{flat_map, list_any}};
-ghost use Rattle.{echo_links.specs.Links.{Area, is_link, links_of}, echo_net.specs.Drawn.has_address, cmd_status.specs.Ended.IsOutOfMemory};
+ghost use Rattle.{echo_links.specs.Links.{Area, is_link, links_of}, echo_verdict.specs.Drawn.has_address, cmd_status.specs.Ended.IsOutOfMemory};
 ghost use Rattle.{cmd_status.specs.Inputs.{AreLinkFiles, IsLinkFault}, cmd_suppose.specs.SupposedFiles.{area_line, system_line}};
 ghost use Rattle.cmd_suppose.specs.Leaving.{IsFirstUnknownIn, area_left, stays, text_left, texts_left};
 ghost use Rattle.cmd_suppose.specs.Leaving as leaving;

@@ -2,12 +2,12 @@
 
 ghost use Rattle.std.specs.{Prelude.{◌≡◌, ◌++◌, ◌↔◌, ℕ, List, IfOk, OnOk, Contains, map}, List.{flat_map, Sorted.IsStrictlySortedBy}};
 ghost use Rattle.{echo_addr.specs.declared.address.Address.Address, echo_links.specs.Links.LinkFile, model_run.specs.Tidy.lists};
-ghost use Rattle.{echo_net.specs.{declared.link.Link.Link, Drawn.back}, cmd_suppose.specs.Listings.{IsListedIn, IsListing, is_listed, unknown_from}};
-ghost use Rattle.echo_net.specs.Nets as net;
+ghost use Rattle.{echo_verdict.specs.{declared.link.Link.Link, Drawn.back}, cmd_suppose.specs.Listings.{IsListedIn, IsListing, is_listed, unknown_from}};
+ghost use Rattle.echo_verdict.specs.Nets as net;
 
 use echo_addr::{Address, put_in_order};
 use echo_links::LinkFile;
-use echo_net::{Link, back, has_address, links, outgoing_links, systems};
+use echo_verdict::{Link, back, has_address, links, outgoing_links, systems};
 use std::alloc::{AllocError, Global};
 use std::marker::Model;
 
@@ -19,7 +19,7 @@ pub struct Listing {
 
 impl Model for Listing {
     ghost use Rattle.std.specs.{Prelude.List, List.Sorted.IsStrictlySortedBy};
-    ghost use Rattle.echo_net.specs.declared.link.Link.{Link};
+    ghost use Rattle.echo_verdict.specs.declared.link.Link.{Link};
     ghost use Rattle.cmd_suppose.specs.Listings.{back_order};
 
     ghost Value = { List Link };

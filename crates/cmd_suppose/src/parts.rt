@@ -1,13 +1,13 @@
 //! The parts of an area: systems that are joined by links that both ends list.
 
 ghost use Rattle.std.specs.{Prelude.{◌≡◌, ◌<◌, ◌↔◌, ℕ, Bool, IfOk, Contains, filter, length, slice_index, vec_len}, List.Sorted.IsStrictlySortedBy};
-ghost use Rattle.{echo_addr.specs.declared.address.Address.Address, echo_net.specs.{declared.link.Link.Link, Drawn.{back, has_link}}};
+ghost use Rattle.{echo_addr.specs.declared.address.Address.Address, echo_verdict.specs.{declared.link.Link.Link, Drawn.{back, has_link}}};
 ghost use Rattle.cmd_suppose.specs.Parts.{AreBothWays, AreCutOff, AreGrouped, AreLabels, AreOthers, ArePaired, AreParts, AreRelabeled, AreSettled, IsLargestAt, JoinsEnds};
 
 use crate::listing::Listing;
 use echo_addr::{Address, Items};
 use echo_links::LinkFile;
-use echo_net::{Link, back, carriers, has_link, links, place};
+use echo_verdict::{Link, back, carriers, has_link, links, place};
 use std::alloc::{AllocError, Global};
 
 /// The parts of the area that are cut off: each part but the largest, by the smallest systems. Of two largest parts the

@@ -2,7 +2,7 @@
 use Rattle.std.proofs.Common.{◌≡◌, ◌∙◌, refl, sym, ap, ℕ, zero, suc, ◌+◌, ◌<◌, arith, true, cond, List, [], ◌∷◌, ◌++◌, append_assoc, drop, length, Option, Some, None}
 use Rattle.{std.{proofs.lemmas.Bool.{cond-true, lt-ltb}, specs.Prelude.nat_lt}, echo_addr.specs.declared.address.Address.Address}
 use Rattle.{echo_links.{specs.Links.same_address, proofs.Addresses.same_address_decides}, echo_filed.specs.declared.key.Key.Key}
-use Rattle.{model_steps.specs.declared.packet.Packet.Packet, echo_packet.specs.Message.Message, echo_net.specs.declared.drawing.Crossing.Crossing}
+use Rattle.{model_steps.specs.declared.packet.Packet.Packet, echo_packet.specs.Message.Message, echo_verdict.specs.declared.drawing.Crossing.Crossing}
 use Rattle.{model_run.specs.{Orderly.{copies, count, origin}, Run.{destination, nth}}, cmd_why.proofs.Counting.total}
 use Rattle.cmd_why.specs.Carrying.{crossing_at, crossings_from, step_of}
 

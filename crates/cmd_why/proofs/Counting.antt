@@ -4,7 +4,7 @@ use Rattle.std.{proofs.lemmas.List.take_all, specs.Prelude.{◌&&◌, bytes_eq, 
 use Rattle.{echo_addr.specs.declared.address.Address.Address, echo_packet.specs.{Answer.{Answer, AnswersAsDescribed, Describes, Found}, Message.Message}}
 use Rattle.{echo_packet.specs.Packet.PacketOf, echo_text.specs.{Echo.msgid_of, Refusal.text_refusal}, echo_links.specs.Links.same_address}
 use Rattle.echo_filed.specs.{declared.key.Key.{Key, TheVariants.ById}, Filed.{Filed, key_of, key_with, same_key}, Written.echo_of}
-use Rattle.{model_steps.specs.{declared.packet.Packet.Packet, Tossing.received}, model_replay.specs.Worlds.{Fits, encoded, unlimited}}
+use Rattle.{model_steps.specs.{declared.packet.Packet.Packet, Tossing.received}, echo_net.specs.Worlds.{Fits, encoded, unlimited}}
 use Rattle.model_run.specs.{Run.{destination, nth}, Orderly.{copies, count, sent_count}}
 
 abbrev pub copies_for : Address → Key → Packet → ℕ

@@ -5,7 +5,7 @@ use Rattle.{echo_addr.specs.declared.address.Address.Address, model_graph.specs.
 use Rattle.{echo_links.proofs.Addresses.same_address_decides, echo_filed.specs.{declared.key.Key.TheVariants.ById, Filed.{Filed, key_of}}}
 use Rattle.{echo_filed.proofs.Keys.same_key_decides, model_steps.specs.declared.packet.Packet.Packet}
 use Rattle.model_run.specs.{Orderly.{IsPosting, Settled, copies, count, sent_count}, Run.{Run, System, destination, nth}, World.{area_count, filed_at}}
-use Rattle.{model_run.proofs.Lists.and-parts as and-both, model_replay.specs.Worlds.message_at}
+use Rattle.{model_run.proofs.Lists.and-parts as and-both, echo_net.specs.Worlds.message_at}
 use Rattle.cmd_why.{specs.Found.{CarriesAt, GoesToNobody, HasPosted, IsCarrierAt, IsNeverGot, IsSentAgain, IsSentOwn, PostedAt}, proofs.Counting.has_key}
 
 pub is_posted : (m : Filed) (tag id of : List ℕ) (found : Option (List ℕ)) → m.sender ≡ None → of ≡ m.echo.tag → found ≡ msgid_of m.echo.kept →

@@ -1,6 +1,6 @@
 -- The answer of `picture --why`, from those of its parts.
 use Rattle.{std.{proofs.Common.{◌≡◌, ℕ, List, Option, refl, sym, ap, ◌∙◌}, specs.Prelude.IfSome}, echo_links.specs.Links.{LinkFile, upper}}
-use Rattle.echo_net.specs.{declared.{drawing.{Crossing.Crossing, Drawing.Drawing}, verdict.Verdict.Verdict}, Drawn.IsDrawing}
+use Rattle.echo_verdict.specs.{declared.{drawing.{Crossing.Crossing, Drawing.Drawing}, verdict.Verdict.Verdict}, Drawn.IsDrawing}
 use Rattle.cmd_why.specs.{declared.shown.Shown.Shown, Carrying.found_crossings, Found.IsShown, Sources.files_of, PicturingWhy.IsPicturedWhy}
 use Rattle.{cmd_why.proofs.ShownRuns.{given_files, was_shown}, cmd_status.specs.{declared.status.Status.Status, Inputs.AreLinkFiles}}
 use Rattle.cmd_check.{specs.Checking.{IsCheckVerdict, verdict_status}, proofs.Checks.{good_is_yes, of_same, yes_is_good}}

@@ -1,7 +1,7 @@
 -- The answer of `why`, from those of its parts.
 use Rattle.std.specs.{Prelude.{codes, Contains, IfSome, ◌↔◌}, List.{flat_map, Sorted.IsStrictlySortedBy}, Ordering.nat_cmp}
 use Rattle.{std.proofs.Common.{◌≡◌, ◌++◌, ℕ, List, [], Option, refl, sym, subst, append_assoc, ◌∙◌, arith}, echo_links.specs.Links.{LinkFile, upper}}
-use Rattle.{echo_net.{specs.declared.verdict.Verdict.Verdict, proofs.Drawings.held_again}, cmd_why.specs.{declared.shown.Shown.Shown, Found.IsShown}}
+use Rattle.{echo_verdict.{specs.declared.verdict.Verdict.Verdict, proofs.Drawings.held_again}, cmd_why.specs.{declared.shown.Shown.Shown, Found.IsShown}}
 use Rattle.cmd_why.{specs.{Sources.files_of, Whys.{AreNamed, AreWhyLines, found_lines, named_in, who_line}, Reasoning.IsReasoned}, proofs.ShownRuns.was_shown}
 use Rattle.{cmd_status.{specs.{declared.status.Status.Status, Inputs.AreLinkFiles}, proofs.Lines.alone}, cmd_print.specs.{Checked.verdict_line, Pushed.Pushes}}
 use Rattle.cmd_check.{specs.Checking.{IsCheckVerdict, verdict_status}, proofs.Checks.{good_is_yes, of_same, yes_is_good}}

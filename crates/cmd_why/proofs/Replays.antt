@@ -1,7 +1,7 @@
 -- The answer of `replay`, from those of its parts.
 use Rattle.{std.proofs.{Common.{◌≡◌, ℕ, List, [], ◌++◌, length, map, sym, ap, ◌∙◌, Ok}, lemmas.List.length-map}, echo_links.specs.Links.LinkFile}
 use Rattle.model_run.{specs.{Event.{RunEvent, run_event}, Run.{Run, System, run_of}, declared.event.Event.Event}, proofs.HarmSteps.run-files as run_files}
-use Rattle.{model_replay.specs.{Script.ScriptOf, Worlds.{IsWorldOf, WorldState}}, cmd_status.specs.declared.status.Status.{Status, TheVariants.Good}}
+use Rattle.{echo_net.specs.{Script.ScriptOf, Worlds.{IsWorldOf, WorldState}}, cmd_status.specs.declared.status.Status.{Status, TheVariants.Good}}
 use Rattle.{cmd_status.{specs.Inputs.AreLinkFiles, proofs.Lines.alone}, cmd_why.specs.{Replaying.{AreWorldLines, IsReplayed}, Replayed.replay_lines}}
 
 pub run_length : (files : List LinkFile) (events : List RunEvent) → length (run_of files events).systems ≡ length files

@@ -2,7 +2,7 @@
 use Rattle.std.proofs.Common.{◌≡◌, ℕ, ◌+◌, ◌<◌, List, [], ◌∷◌, ◌++◌, length, map, take, get_or, sym, ap, ◌∙◌, arith, append_assoc, append-nil, inl, inr, Bool, Some}
 use Rattle.std.{proofs.{Math.ListN.get_or-map, lemmas.{List.{length-map, length-take-le, take_more}, Option.slice_get_cases}}, specs.List.flat_map}
 use Rattle.{echo_links.specs.Links.LinkFile, model_run.specs.{Run.{Run, System, nth}, World.{is_settled, undelivered}}}
-use Rattle.{model_replay.proofs.Exports.nth-slice_get, cmd_why.specs.Replayed.{area_state_line, packets_line, replay_lines, settled_line, systems_from}}
+use Rattle.{echo_net.proofs.Exports.nth-slice_get, cmd_why.specs.Replayed.{area_state_line, packets_line, replay_lines, settled_line, systems_from}}
 
 -- one more system
 systems_last : (run : Run) (i : ℕ) (files : List LinkFile) (file : LinkFile)

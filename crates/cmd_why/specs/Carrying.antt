@@ -2,7 +2,7 @@
 use Rattle.std.specs.Prelude.{ℕ, ◌+◌, ◌&&◌, nat_le, nat_lt, Bool, count_by, if◌then◌else◌, List, [], ◌∷◌, ◌++◌, Option, Some, None}
 use Rattle.{echo_addr.specs.declared.address.Address.Address, echo_links.specs.Links.{LinkFile, same_address}, echo_filed.specs.declared.key.Key.Key}
 use Rattle.{echo_filed.specs.declared.key.Key.TheVariants.ById, model_steps.specs.declared.packet.Packet.Packet}
-use Rattle.{echo_net.specs.declared.drawing.Crossing.Crossing, model_replay.specs.Counts.packet_counts, model_run.specs.Orderly.{copies, count, origin}}
+use Rattle.{echo_verdict.specs.declared.drawing.Crossing.Crossing, echo_net.specs.Counts.packet_counts, model_run.specs.Orderly.{copies, count, origin}}
 use Rattle.{model_run.specs.Run.{destination, start}, cmd_why.specs.declared.shown.Harm.{Harm, TheVariants.{NeverGets, NeverSettles, SentAgain, SentOwn}}}
 use Rattle.cmd_why.specs.{declared.shown.Shown.Shown, Shown.{posting_and_moves, shown_run}}
 

@@ -2,7 +2,7 @@
 use Rattle.std.specs.Prelude.{◌≡◌, ℕ, ◌↔◌, IfSome, List, Option, None, Result}
 use Rattle.cmd_status.specs.{Devices.Output, declared.fault.Fault.Fault}
 use Rattle.cmd_status.specs.{declared.status.Status.{Status, TheVariants.Good}, Ended.Answers, Inputs.{AreLinkFiles, IsFirstFaultGiven}}
-use Rattle.{echo_links.specs.Links.{LinkFile, upper}, model_run.specs.Tidy.Tidy, echo_net.specs.declared.verdict.Verdict.Verdict}
+use Rattle.{echo_links.specs.Links.{LinkFile, upper}, model_run.specs.Tidy.Tidy, echo_verdict.specs.declared.verdict.Verdict.Verdict}
 use Rattle.{cmd_why.specs.{declared.shown.Shown.Shown, Found.IsShown, Whys.AreWhyLines}, cmd_check.specs.Checking.{IsCheckVerdict, verdict_status}}
 
 -- The link files have no fault. These lines are the verdict on the area of the tag in upper case. After a no there

@@ -3,8 +3,8 @@ use Rattle.std.specs.Prelude.{◌≡◌, ℕ, ◌⊎◌, List, length, map, Opti
 use Rattle.cmd_status.specs.Devices.{Output}
 use Rattle.cmd_status.specs.{declared.{fault.Fault.{Fault, TheVariants.ScriptLine}, status.Status.{Status, TheVariants.Good}}, Ended.Answers}
 use Rattle.{cmd_status.specs.Inputs.{AreLinkFiles, IsLinkFault}, echo_links.specs.Links.LinkFile, model_run.specs.{declared.event.Event.Event, Event.run_event}}
-use Rattle.{model_run.specs.Run.{Run, System, run_of}, model_replay.specs.{declared.script.ScriptFault.TheVariants.Line, Script.ScriptOf}}
-use Rattle.{model_replay.specs.Worlds.{IsWorldOf, WorldState}, cmd_why.specs.Replayed.replay_lines}
+use Rattle.{model_run.specs.Run.{Run, System, run_of}, echo_net.specs.{declared.script.ScriptFault.TheVariants.Line, Script.ScriptOf}}
+use Rattle.{echo_net.specs.Worlds.{IsWorldOf, WorldState}, cmd_why.specs.Replayed.replay_lines}
 
 -- Neither the script nor a link file has a fault. These are the lines for the run of its events on them.
 pub record IsReplayed (script : List ℕ) (inputs : List (List ℕ)) (lines : List ℕ) (status : Status) : Type 0 where

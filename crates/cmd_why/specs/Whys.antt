@@ -2,7 +2,7 @@
 use Rattle.std.specs.{Prelude.{◌≡◌, ℕ, ◌↔◌, Contains, List, [], ◌∷◌, ◌++◌, codes, decimal, slice_get, Option, Some, None}, List.flat_map}
 use Rattle.std.specs.{List.Sorted.IsStrictlySortedBy, Ordering.nat_cmp}
 use Rattle.echo_addr.specs.{declared.address.Address.Address, Address.address_text}
-use Rattle.{echo_charset.specs.Words.printed_word, echo_links.specs.Links.LinkFile, echo_net.specs.declared.verdict.Verdict.{Verdict, TheVariants.{Yes, No}}}
+use Rattle.{echo_charset.specs.Words.printed_word, echo_links.specs.Links.LinkFile, echo_verdict.specs.declared.verdict.Verdict.{Verdict, TheVariants.{Yes, No}}}
 use Rattle.cmd_why.specs.declared.shown.{Harm.{Harm, TheVariants.{NeverGets, NeverSettles, SentAgain, SentOwn}}, Shown.Shown}
 use Rattle.{model_plan.specs.declared.plan.Move.{Move, TheVariants.{Deliver, Scan}}, cmd_print.specs.Checked.verdict_line}
 

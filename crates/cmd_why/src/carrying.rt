@@ -2,7 +2,7 @@
 
 ghost use Rattle.std.specs.Prelude.{◌≡◌, ◌++◌, IfOk, OnOk, Some, None, if◌then◌else◌, nat_lt, option_copied};
 ghost use Rattle.echo_filed.specs.declared.key.Key.TheVariants.{ById};
-ghost use Rattle.{model_replay.specs.Worlds.{Fits, IsWorldOf, encoded}, model_run.specs.{Orderly.{copies, count, origin}, Run.{Run, nth}}};
+ghost use Rattle.{echo_net.specs.Worlds.{Fits, IsWorldOf, encoded}, model_run.specs.{Orderly.{copies, count, origin}, Run.{Run, nth}}};
 ghost use Rattle.model_steps.specs.declared.packet.Packet.{Packet};
 ghost use Rattle.cmd_why.specs.{Carrying.{crossing_at, crossings_from, found_crossings, shown_crossings, step_of, system_named}, Sources.files_of};
 
@@ -11,9 +11,9 @@ use crate::events::events_of;
 use crate::shown::{Harm, Shown};
 use crate::sources::read_files;
 use echo_addr::{Address, Items};
-use echo_net::Crossing;
+use echo_net::{World, replay_counted};
 use echo_packet::Header;
-use model_replay::{World, replay_counted};
+use echo_verdict::Crossing;
 use std::alloc::{AllocError, Global};
 use std::hash::RandomState;
 
@@ -74,7 +74,7 @@ struct HarmedMessage<'a> {
 
 fn crossings_to(
     alloc: Global,
-    world: &World,
+    world: &World<RandomState>,
     counts: &[usize],
     harmed: HarmedMessage<'_>,
 ) -> Result<Vec<Crossing>, AllocError>
@@ -90,7 +90,7 @@ fn crossings_to(
 fn add_crossing(
     alloc: Global,
     all: &mut Vec<Crossing>,
-    world: &World,
+    world: &World<RandomState>,
     counts: &[usize],
     k: usize,
     harmed: HarmedMessage<'_>,
@@ -112,7 +112,7 @@ fn add_crossing(
 
 fn sender_at(
     alloc: Global,
-    world: &World,
+    world: &World<RandomState>,
     k: usize,
     tag: &[u8],
     id: &[u8],
@@ -120,8 +120,8 @@ fn sender_at(
     ensures { IfOk result (λ found. (run : Run) → IsWorldOf world.now run → (p : Packet) → nth k run.packets ≡ Some p →
         found ≡ (if nat_lt 0 (count (ById tag.now id.now) (copies p)) then Some (origin p) else None)) }
 {
-    match world.packet(alloc, k)? {
-        Some(bytes) => sender_in(alloc, &bytes, tag, id),
+    match world.packet(k) {
+        Some(bytes) => sender_in(alloc, bytes, tag, id),
         None => Ok(None),
     }
 }

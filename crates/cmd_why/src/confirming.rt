@@ -1,3 +1,5 @@
+//! Whether the run of a plan does the harm that was guessed.
+
 ghost use Rattle.std.specs.Prelude.{IfOk, IfSome};
 ghost use Rattle.cmd_why.specs.Found.{IsShown};
 
@@ -6,9 +8,9 @@ use crate::judging::judge;
 use crate::shown::Shown;
 use echo_addr::Items;
 use echo_links::LinkFile;
+use echo_net::replay_with;
 use echo_text::MsgId;
 use model_plan::Plan;
-use model_replay::replay;
 use std::alloc::{AllocError, Global};
 use std::hash::RandomState;
 
@@ -32,7 +34,7 @@ pub(crate) fn confirmed(
     };
     let id = MsgId::write(alloc, file.system(), SERIAL)?;
     let events = events_of(alloc, poster, tag, &moves)?;
-    let world = replay(alloc, files, &events, hasher)?;
+    let world = replay_with(alloc, files, &events, hasher)?;
     let found = judge(alloc, &world, poster, tag, &id, guess)?;
     match found {
         Some(harm) => Ok(Some(Shown {

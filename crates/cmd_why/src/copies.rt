@@ -1,20 +1,23 @@
+//! The copies of a message in packets, counted.
+
 ghost use Rattle.std.specs.Prelude.{◌≡◌, ◌&&◌, false, IfOk, IsTrue, bytes_eq, is_none, unwrap_or, option_copied, option_map, if◌then◌else◌, map, filter};
 ghost use Rattle.{echo_addr.specs.declared.address.Address.Address as Sender, echo_filed.specs.{declared.key.Key.TheVariants.ById, Filed.{key_of, same_key}}};
 ghost use Rattle.{echo_links.specs.Links.same_address, model_run.specs.{Orderly.{IsPosting, copies, count, sent_count}, Run.{Run, destination, nth}}};
-ghost use Rattle.{model_replay.specs.Worlds.{Fits, IsWorldOf, encoded}, model_steps.specs.{declared.packet.Packet.Packet, Tossing.received}};
+ghost use Rattle.{echo_net.specs.Worlds.{Fits, IsWorldOf, encoded}, model_steps.specs.{declared.packet.Packet.Packet, Tossing.received}};
 ghost use Rattle.echo_text.specs.Refusal.{text_refusal};
 
 use echo_addr::Address;
 use echo_filed::Filed;
+use echo_net::World;
 use echo_packet::{Header, Limits, Packed, read_packet};
 use echo_text::{TextFault, view_text};
-use model_replay::World;
 use std::alloc::{AllocError, Global};
+use std::hash::RandomState;
 
 /// How many copies of the message the packets to the address hold. Fails only when out of memory.
 pub(crate) fn sent_times(
     alloc: Global,
-    world: &World,
+    world: &World<RandomState>,
     to: Address,
     tag: &[u8],
     id: &[u8],
@@ -34,7 +37,7 @@ pub(crate) fn sent_times(
 
 fn copies_to(
     alloc: Global,
-    world: &World,
+    world: &World<RandomState>,
     k: usize,
     to: Address,
     tag: &[u8],
@@ -46,13 +49,13 @@ fn copies_to(
     if !is_for(world, k, to) {
         return Ok(0);
     }
-    match world.packet(alloc, k)? {
-        Some(bytes) => copies_in(alloc, &bytes, tag, id),
+    match world.packet(k) {
+        Some(bytes) => copies_in(alloc, bytes, tag, id),
         None => Ok(0),
     }
 }
 
-pub(crate) fn is_for(world: &World, k: usize, to: Address) -> bool
+pub(crate) fn is_for(world: &World<RandomState>, k: usize, to: Address) -> bool
     ensures { (run : Run) → IsWorldOf world.now run → (p : Packet) → nth k run.packets ≡ Some p → result ≡ same_address (destination p) to }
 {
     match world.packet_destination(k) {

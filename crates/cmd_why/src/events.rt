@@ -1,3 +1,5 @@
+//! The events of a plan: one posting, then scans and deliveries.
+
 ghost use Rattle.std.specs.Prelude.{◌≡◌, IfOk, map};
 ghost use Rattle.model_run.specs.{Event.run_event, Postings.{trial_draft, trial_posting}};
 ghost use Rattle.cmd_why.specs.Shown.{posting_and_moves, run_move};

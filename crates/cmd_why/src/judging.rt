@@ -1,19 +1,22 @@
+//! The harm that a run did.
+
 ghost use Rattle.std.specs.Prelude.{◌≡◌, ◌≢◌, IfOk, IfSome, IsTrue, Some};
 ghost use Rattle.{model_graph.specs.Walk.Among, echo_links.specs.Links.same_address};
-ghost use Rattle.{model_run.specs.Run.{Run, System, nth}, model_replay.specs.Worlds.IsWorldOf, cmd_why.specs.Found.{CarriesAt, HasHarm, PostedAt}};
+ghost use Rattle.{model_run.specs.Run.{Run, System, nth}, echo_net.specs.Worlds.IsWorldOf, cmd_why.specs.Found.{CarriesAt, HasHarm, PostedAt}};
 
 use crate::copies::{is_posting, sent_times};
 use crate::shown::Harm;
 use echo_addr::Address;
+use echo_net::World;
 use model_plan::Guess;
-use model_replay::World;
 use model_run::settled_runs_settle_each_area;
 use std::alloc::{AllocError, Global};
+use std::hash::RandomState;
 
 /// The harm that the guess names, if it is right for the net. `poster` is the system that posted the message.
 pub(crate) fn judge(
     alloc: Global,
-    world: &World,
+    world: &World<RandomState>,
     poster: usize,
     tag: &[u8],
     id: &[u8],
@@ -31,7 +34,7 @@ pub(crate) fn judge(
 
 fn sent_again(
     alloc: Global,
-    world: &World,
+    world: &World<RandomState>,
     system: usize,
     tag: &[u8],
     id: &[u8],
@@ -50,7 +53,7 @@ fn sent_again(
 
 fn sent_own(
     alloc: Global,
-    world: &World,
+    world: &World<RandomState>,
     poster: usize,
     tag: &[u8],
     id: &[u8],
@@ -67,7 +70,13 @@ fn sent_own(
     Ok(Some(Harm::SentOwn(address)))
 }
 
-fn never_got(world: &World, poster: usize, system: usize, tag: &[u8], id: &[u8]) -> Option<Harm>
+fn never_got(
+    world: &World<RandomState>,
+    poster: usize,
+    system: usize,
+    tag: &[u8],
+    id: &[u8],
+) -> Option<Harm>
     ensures { IfSome result (λ harm. (run : Run) → IsWorldOf world.now run → HasHarm run tag.now id.now harm) }
 {
     poster_at(world, poster, tag, id)?;
@@ -84,7 +93,7 @@ fn never_got(world: &World, poster: usize, system: usize, tag: &[u8], id: &[u8])
 
 fn gone_to_nobody(
     alloc: Global,
-    world: &World,
+    world: &World<RandomState>,
     to: Address,
     tag: &[u8],
     id: &[u8],
@@ -101,7 +110,7 @@ fn gone_to_nobody(
     Ok(Some(Harm::NeverSettles))
 }
 
-fn is_nobody(world: &World, to: Address) -> bool
+fn is_nobody(world: &World<RandomState>, to: Address) -> bool
     ensures { IsTrue result → (run : Run) → IsWorldOf world.now run → (s : System) → Among s run.systems → s.file.system ≢ to }
 {
     'systems: for i in 0..world.systems() {
@@ -112,7 +121,7 @@ fn is_nobody(world: &World, to: Address) -> bool
     true
 }
 
-fn has_address(world: &World, i: usize, to: Address) -> bool
+fn has_address(world: &World<RandomState>, i: usize, to: Address) -> bool
     ensures { (run : Run) → IsWorldOf world.now run → (s : System) → nth i run.systems ≡ Some s → result ≡ same_address s.file.system to }
 {
     match world.links(i) {
@@ -121,7 +130,7 @@ fn has_address(world: &World, i: usize, to: Address) -> bool
     }
 }
 
-fn carrier_at(world: &World, i: usize, tag: &[u8]) -> Option<Address>
+fn carrier_at(world: &World<RandomState>, i: usize, tag: &[u8]) -> Option<Address>
     ensures { IfSome result (λ a. (run : Run) → IsWorldOf world.now run → CarriesAt run i tag.now a) }
 {
     let file = world.links(i)?;
@@ -131,7 +140,7 @@ fn carrier_at(world: &World, i: usize, tag: &[u8]) -> Option<Address>
     Some(file.system())
 }
 
-fn poster_at(world: &World, i: usize, tag: &[u8], id: &[u8]) -> Option<Address>
+fn poster_at(world: &World<RandomState>, i: usize, tag: &[u8], id: &[u8]) -> Option<Address>
     ensures { IfSome result (λ a. (run : Run) → IsWorldOf world.now run → PostedAt run i tag.now id.now a) }
 {
     let address = carrier_at(world, i, tag)?;

@@ -26,6 +26,6 @@ mod why_text;
 
 pub use laws::shown_runs_break_the_promise;
 pub use picturing_why::picture_why;
-pub use reasoning::why;
+pub use reasoning::{Wanted, why};
 pub use replaying::replay;
 pub use shown::{Harm, Shown};

@@ -10,7 +10,7 @@ use cmd_status::{Fault, Status, link_files};
 use disk_io::Sink;
 use echo_addr::Items;
 use echo_links::LinkFile;
-use echo_net::{Crossing, Verdict};
+use echo_verdict::{Crossing, Verdict};
 use std::alloc::{AllocError, Global};
 use std::hash::RandomState;
 
@@ -48,8 +48,8 @@ fn picture_why_read<'a, W: Sink>(
     ensures { (given : List ℕ) → AreLinkFiles files.now links.now → tag.now ≡ upper given
         → PictureWhyAnswers given files.now None (output_of W.contents W.failures W.holds out.old) (output_of W.contents W.failures W.holds out.new) result }
 {
-    let verdict = echo_net::check(alloc, links, tag)?;
-    let drawing = echo_net::draw(alloc, links, tag, &verdict)?;
+    let verdict = echo_verdict::check(alloc, links, tag)?;
+    let drawing = echo_verdict::draw(alloc, links, tag, &verdict)?;
     let crossings = crossings_found(alloc, tag, files, &verdict, hasher)?;
     print_picture(alloc, tag, &verdict, &drawing, &crossings, out)
 }
@@ -64,6 +64,6 @@ fn crossings_found(
 ) -> Result<Vec<Crossing>, AllocError>
     ensures { IfOk result (λ all. AreCrossings files.now tag.now all.items) }
 {
-    let found = explain(alloc, files, tag, verdict, hasher)?;
+    let found = explain(alloc, files, tag, verdict, 0, hasher)?;
     crossings(alloc, files, tag, found.as_ref(), hasher)
 }

@@ -11,14 +11,23 @@ use cmd_status::{Fault, Status, link_files, print_rest};
 use disk_io::Sink;
 use echo_addr::Items;
 use echo_links::LinkFile;
-use echo_net::Verdict;
+use echo_verdict::Verdict;
 use std::alloc::Global;
 use std::hash::RandomState;
 
-/// `why TAG LINKS...`: prints the verdict of `check` on the area of the tag, its letters made upper case, as a note.
+/// Which run `why` looks for, and the names of the files.
+#[derive(Clone, Copy)]
+pub struct Wanted<'p> {
+    /// The path of each file. A file after the last path has none.
+    pub paths: &'p [Items<u8>],
+    /// The number of the fault: 0 is the one that the verdict names, then come those that `check --more` prints.
+    pub fault: usize,
+}
+
+/// `why [--fault N] TAG LINKS...`: prints the verdict of `check` on the area of the tag, its letters made upper case, as a note.
 /// After a no it looks for a run on these link files that does harm. If there is one, it prints the harm and the
 /// events. They are a script for `replay`. Before the events a note for each system in them has its address and the path of
-/// its file. A file after the last path has none.
+/// its file.
 ///
 /// The status is that of `check`. For a faulty file nothing is printed. The first fault is returned. `stopped` is why
 /// no further file was read, and comes last. Look-ups go by the hasher.
@@ -26,19 +35,19 @@ pub fn why<'a, W: Sink>(
     alloc: Global,
     tag: &[u8],
     files: &[Items<u8>],
-    paths: &[Items<u8>],
+    wanted: Wanted<'_>,
     stopped: Option<Fault<'a>>,
     hasher: RandomState,
     out: &mut W,
 ) -> Result<Status, Fault<'a>>
-    ensures { WhyAnswers tag.now files.now paths.now stopped.entry (output_of W.contents W.failures W.holds out.old) (output_of W.contents W.failures W.holds out.new) result }
+    ensures { WhyAnswers tag.now files.now wanted.entry.paths.now stopped.entry (output_of W.contents W.failures W.holds out.old) (output_of W.contents W.failures W.holds out.new) result }
 {
     let links = link_files(alloc, files)?;
     if let Some(fault) = stopped {
         return Err(fault);
     }
     let tag = tag.to_ascii_uppercase(alloc)?;
-    why_read(alloc, &tag, files, &links, paths, hasher, out)
+    why_read(alloc, &tag, files, &links, wanted, hasher, out)
 }
 
 // The same of link files that are read, and of the tag in upper case.
@@ -47,16 +56,24 @@ fn why_read<'a, W: Sink>(
     tag: &[u8],
     files: &[Items<u8>],
     links: &[LinkFile],
-    paths: &[Items<u8>],
+    wanted: Wanted<'_>,
     hasher: RandomState,
     out: &mut W,
 ) -> Result<Status, Fault<'a>>
     ensures { (given : List ℕ) → AreLinkFiles files.now links.now → tag.now ≡ upper given
-        → WhyAnswers given files.now paths.now None (output_of W.contents W.failures W.holds out.old) (output_of W.contents W.failures W.holds out.new) result }
+        → WhyAnswers given files.now wanted.entry.paths.now None (output_of W.contents W.failures W.holds out.old) (output_of W.contents W.failures W.holds out.new) result }
 {
-    let verdict = echo_net::check(alloc, links, tag)?;
-    let found = explain(alloc, files, tag, &verdict, hasher)?;
-    print_why(alloc, links, paths, tag, &verdict, found.as_ref(), out)
+    let verdict = echo_verdict::check(alloc, links, tag)?;
+    let found = explain(alloc, files, tag, &verdict, wanted.fault, hasher)?;
+    print_why(
+        alloc,
+        links,
+        wanted.paths,
+        tag,
+        &verdict,
+        found.as_ref(),
+        out,
+    )
 }
 
 // Prints the verdict and the run that was found. The status is that of the verdict.

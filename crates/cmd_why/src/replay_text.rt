@@ -1,14 +1,15 @@
 //! The lines of a replayed net.
 ghost use Rattle.std.specs.{Prelude.{◌≡◌, ◌++◌, OnOk, Some, length, map, slice_get}, List.flat_map};
 ghost use Rattle.echo_links.specs.Links.{Area};
-ghost use Rattle.{model_run.specs.Run.{Run, System, nth}, model_replay.specs.Worlds.IsWorldOf};
+ghost use Rattle.{model_run.specs.Run.{Run, System, nth}, echo_net.specs.Worlds.IsWorldOf};
 ghost use Rattle.cmd_why.specs.Replayed.{area_state_line, area_counts_line, packets_line, replay_lines, settled_line, systems_from};
 
 use echo_addr::Address;
 use echo_charset::written;
 use echo_links::LinkFile;
-use model_replay::World;
+use echo_net::World;
 use std::alloc::AllocError;
+use std::hash::RandomState;
 use std::io::Write;
 
 /// Adds the lines of a net of so many systems: for each area of each, how many messages are filed and wait there; how
@@ -16,7 +17,7 @@ use std::io::Write;
 pub(crate) fn push_world(
     lines: &mut Vec<u8>,
     systems: usize,
-    world: &World,
+    world: &World<RandomState>,
 ) -> Result<(), AllocError>
     ensures { OnOk result ((run : Run) → IsWorldOf world.now run → length run.systems ≡ systems →
         lines.new.items ≡ lines.old.items ++ replay_lines (map (λ s. s.file) run.systems) run) }
@@ -28,7 +29,11 @@ pub(crate) fn push_world(
 }
 
 // Adds the lines of the areas of the systems.
-fn push_systems(lines: &mut Vec<u8>, systems: usize, world: &World) -> Result<(), AllocError>
+fn push_systems(
+    lines: &mut Vec<u8>,
+    systems: usize,
+    world: &World<RandomState>,
+) -> Result<(), AllocError>
     ensures { OnOk result ((run : Run) → IsWorldOf world.now run → length run.systems ≡ systems →
         lines.new.items ≡ lines.old.items ++ systems_from run 0 (map (λ s. s.file) run.systems)) }
 {
@@ -39,7 +44,7 @@ fn push_systems(lines: &mut Vec<u8>, systems: usize, world: &World) -> Result<()
 }
 
 // Adds the lines of the areas of the system of this index.
-fn push_system(lines: &mut Vec<u8>, i: usize, world: &World) -> Result<(), AllocError>
+fn push_system(lines: &mut Vec<u8>, i: usize, world: &World<RandomState>) -> Result<(), AllocError>
     ensures { OnOk result ((run : Run) → IsWorldOf world.now run → (s : System) → nth i run.systems ≡ Some s →
         lines.new.items ≡ lines.old.items ++ flat_map (area_state_line run i s.file.system) s.file.areas) }
 {
@@ -54,7 +59,7 @@ fn push_areas(
     lines: &mut Vec<u8>,
     i: usize,
     file: &LinkFile,
-    world: &World,
+    world: &World<RandomState>,
 ) -> Result<(), AllocError>
     ensures { OnOk result ((run : Run) → IsWorldOf world.now run →
         lines.new.items ≡ lines.old.items ++ flat_map (area_state_line run i file.now.system) file.now.areas) }
@@ -71,7 +76,7 @@ fn push_area(
     i: usize,
     k: usize,
     file: &LinkFile,
-    world: &World,
+    world: &World<RandomState>,
 ) -> Result<(), AllocError>
     ensures { OnOk result ((run : Run) → IsWorldOf world.now run → (area : Area) → slice_get file.now.areas k ≡ Some area →
         lines.new.items ≡ lines.old.items ++ area_state_line run i file.now.system area) }

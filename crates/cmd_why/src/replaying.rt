@@ -1,14 +1,14 @@
 //! What `replay` answers.
 ghost use Rattle.std.specs.Prelude.{◌⊎◌, ℕ, List, None, Ok, IfErr, IfOk};
 ghost use Rattle.cmd_status.specs.{Devices.output_of, Ended.IsOutOfMemory, Inputs.AreLinkFiles};
-ghost use Rattle.{cmd_why.specs.Replaying.{IsScriptFault, PrintsWorld, ReplayAnswers}, model_replay.specs.Script.ScriptOf};
+ghost use Rattle.{cmd_why.specs.Replaying.{IsScriptFault, PrintsWorld, ReplayAnswers}, echo_net.specs.Script.ScriptOf};
 
 use crate::replay_text::push_world;
 use cmd_status::{Fault, Status, link_files, print_rest};
 use disk_io::Sink;
 use echo_addr::Items;
 use echo_links::LinkFile;
-use model_replay::{ReplayProgress, ScriptFault, World, read_script, replay_reported};
+use echo_net::{ReplayProgress, ScriptFault, World, read_script, replay_reported};
 use model_run::Event;
 use std::alloc::Global;
 use std::hash::RandomState;
@@ -58,7 +58,7 @@ fn replay_read<'a, T: ReplayProgress, W: Sink>(
 fn print_world<'a, W: Sink>(
     alloc: Global,
     systems: usize,
-    world: &World,
+    world: &World<RandomState>,
     out: &mut W,
 ) -> Result<Status, Fault<'a>>
     ensures { PrintsWorld systems world.now (output_of W.contents W.failures W.holds out.old) (output_of W.contents W.failures W.holds out.new) result }

@@ -1,3 +1,5 @@
+//! The harm that is shown, with its run.
+
 use echo_addr::{Address, Items};
 use model_plan::Move;
 

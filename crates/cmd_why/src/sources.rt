@@ -1,3 +1,5 @@
+//! The link files of a run, read from bytes that were judged before.
+
 ghost use Rattle.std.specs.Prelude.{◌≡◌, IfOk};
 ghost use Rattle.{echo_links.specs.LinkLines.file_of, cmd_why.specs.Sources.files_of};
 
@@ -16,6 +18,7 @@ pub(crate) fn read_files(alloc: Global, sources: &[Items<u8>]) -> Result<Vec<Lin
     Ok(files)
 }
 
+/// The link file of these bytes. They were read as one before, so no fault of a file comes here, and what does is memory.
 fn read_file(alloc: Global, bytes: &[u8]) -> Result<LinkFile, AllocError>
     ensures { IfOk result (λ file. file ≡ file_of bytes.now) }
 {

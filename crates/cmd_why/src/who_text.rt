@@ -6,7 +6,7 @@ use crate::shown::Shown;
 use echo_addr::{Address, Items, put_in_order};
 use echo_charset::{push_word, written};
 use echo_links::LinkFile;
-use echo_net::Verdict;
+use echo_verdict::Verdict;
 use model_plan::Move;
 use std::alloc::{AllocError, Global};
 use std::io::Write;

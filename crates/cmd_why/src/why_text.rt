@@ -10,7 +10,7 @@ use cmd_print::push_verdict;
 use echo_addr::{Address, Items};
 use echo_charset::written;
 use echo_links::LinkFile;
-use echo_net::Verdict;
+use echo_verdict::Verdict;
 use model_plan::Move;
 use std::alloc::{AllocError, Global};
 use std::io::Write;

@@ -1,5 +1,9 @@
 //! The table of commands: the words of each, and its help.
 
+use crate::common_words::{
+    ALL_LINKS, AREA, ASSUME, ASSUME_MISSING, AT, BASE, LINKS, LINKS_FROM, NET, SERIAL, TAG, WITHOUT,
+};
+
 // The end of a command's help: an example, and the statuses. Status 1 has this line.
 macro_rules! ending_with {
     ($example:literal, $differs:literal) => {
@@ -75,52 +79,6 @@ pub(crate) struct Entry(
 pub(crate) const PROGRAM_ENDING: &str = ending_with!(
     "echonet show mail.pkt",
     "  1  the verdict is no, or a checksum differs from the stated one\n"
-);
-
-const AREA: &str = "The area, in letters of either case";
-
-const TAG: Word = Word("TAG", Form::One, AREA);
-
-const NET: &str = "The link file of each system of the net";
-
-const ALL_LINKS: Word = Word("LINKS", Form::ManyUnless("links-from"), NET);
-
-const LINKS_FROM: Word = Word(
-    "links-from",
-    Form::Option("FILE"),
-    "The link files are listed in this file, or - for standard input: one a line, or each ended by 00",
-);
-
-const ASSUME: &str =
-    "Judges this system without a file of its own: it links with exactly those who list it. May be repeated";
-
-const ASSUME_MISSING: Word = Word(
-    "assume-missing",
-    Form::Flag,
-    "Does so with each system that a link file lists and that has none",
-);
-
-const WITHOUT: &str =
-    "As if this system had no link file and nobody listed it: who is then cut off? May be repeated";
-
-const LINKS: Word = Word("LINKS", Form::One, "The link file of the system");
-
-const BASE: Word = Word(
-    "BASE",
-    Form::One,
-    "The base of the system: a file, which need not exist yet, or a folder",
-);
-
-const SERIAL: Word = Word(
-    "serial",
-    Form::Needed("HEX8"),
-    "The serial of its MSGID, new for each message, or auto",
-);
-
-const AT: Word = Word(
-    "at",
-    Form::Needed("STAMP"),
-    "The time, as YYYY-MM-DDThh:mm:ss, or now (UTC), or local (in the system's time zone)",
 );
 
 /// The commands for packets, nodelists and nets.
@@ -206,6 +164,11 @@ pub(crate) const LOOKING: &[Entry] = &[
         "Prints a run in which an area that is not in order goes wrong, as a script for replay",
         judging!("echonet why TEST links/* > wrong.script"),
         &[
+            Word(
+                "fault",
+                Form::Option("N"),
+                "The harm of the Nth further fault that check --more prints; 0 is that of the verdict",
+            ),
             Word("assume", Form::Repeated("ADDRESS"), ASSUME),
             ASSUME_MISSING,
             LINKS_FROM,
@@ -353,8 +316,21 @@ pub(crate) const CHANGING: &[Entry] = &[
     Entry(
         "purge",
         "Leaves of each scanned message nothing of its text but the id",
-        ending!("echonet purge links base"),
-        &[LINKS, BASE],
+        ending!("echonet purge --area TEST --to 1000 links base"),
+        &[
+            Word(
+                "area",
+                Form::Option("TAG"),
+                "Purges only the messages of this area, in letters of either case",
+            ),
+            Word(
+                "to",
+                Form::Option("I"),
+                "Purges only messages before that of this number, counted from 0",
+            ),
+            LINKS,
+            BASE,
+        ],
     ),
 ];
 

@@ -34,7 +34,7 @@ fn argument<'a>(alloc: Global, word: Word) -> Result<Arg<'a>, AllocError> {
     }
 }
 
-fn flag<'a>(arg: Arg<'a>, name: &'static str) -> Arg<'a> {
+pub(crate) fn flag<'a>(arg: Arg<'a>, name: &'static str) -> Arg<'a> {
     arg.long(name).action(ArgAction::SetTrue)
 }
 
@@ -63,11 +63,40 @@ fn rest_unless<'a>(
     rest.required_unless_present(option)?.conflicts_with(list)
 }
 
-pub(crate) fn subcommand<'a>(alloc: Global, entry: Entry) -> Result<Command<'a>, AllocError> {
-    let Entry(name, about, ending, words) = entry;
-    let mut command = described(alloc, name, about, ending);
-    for word in words {
-        command = command.arg(argument(alloc, *word)?)?;
+/// A command of the parser that takes one more of its parts: a word, or a command below it. A function over this trait
+/// has no field of a command in its proof.
+pub(crate) trait TakePart<P>: Drop {
+    fn with(self, alloc: Global, part: P) -> Result<Self, AllocError>;
+}
+
+impl<'a> TakePart<Word> for Command<'a> {
+    fn with(self, alloc: Global, part: Word) -> Result<Self, AllocError> {
+        match argument(alloc, part) {
+            Ok(argument) => self.arg(argument),
+            Err(refused) => Err(refused),
+        }
+    }
+}
+
+impl<'a> TakePart<Entry> for Command<'a> {
+    fn with(self, alloc: Global, part: Entry) -> Result<Self, AllocError> {
+        let Entry(name, about, ending, words) = part;
+        match with_all(alloc, described(alloc, name, about, ending), words) {
+            Ok(command) => self.subcommand(command),
+            Err(refused) => Err(refused),
+        }
+    }
+}
+
+/// Gives the command all these parts.
+pub(crate) fn with_all<P: Copy, C: TakePart<P>>(
+    alloc: Global,
+    command: C,
+    parts: &'static [P],
+) -> Result<C, AllocError> {
+    let mut command = command;
+    for part in parts {
+        command = command.with(alloc, *part)?;
     }
     Ok(command)
 }

@@ -2,8 +2,11 @@
 //! manual page. Begin with `commands`, the table of commands with their words and help.
 #![tactic(auto)]
 
+mod base_words;
 mod commands;
+mod common_words;
 mod forms;
+mod net_words;
 mod parsing;
 mod program;
 mod refusing;
@@ -14,5 +17,6 @@ pub use refusing::{Ending, explain};
 pub use words::{
     BaseWords, CheckWords, ExportJamWords, ExportStoredWords, ExportWords, ListWords, NetWords,
     ParsedLine, Paths, PictureWords, Place, PostJamWords, PostMailWords, PostStoredWords,
-    PostWords, ReplyWords, ResendWords, ScanWords, StationWords, TossWords, WhyWords, Words,
+    PostWords, PurgeWords, ReplyWords, ResendWords, ScanWords, StationWords, TossWords, WhyWords,
+    Words,
 };

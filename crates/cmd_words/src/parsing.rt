@@ -1,279 +1,16 @@
-//! Finds the words of each command in the parser's answer.
+//! Finds the command and its words in the parser's answer.
 
-use crate::program::command;
-use crate::words::{
-    BaseWords, CheckWords, ExportJamWords, ExportStoredWords, ExportWords, ListWords, NetWords,
-    ParsedLine, Paths, PictureWords, Place, PostJamWords, PostMailWords, PostStoredWords,
-    PostWords, ReplyWords, ResendWords, ScanWords, StationWords, TossWords, WhyWords, Words,
+use crate::base_words::{
+    export_jam_words, export_stored_words, export_words, list_words, place_in, post_jam_words,
+    post_mail_words, post_stored_words, post_words, reply_words, resend_words, scan_words,
+    toss_words,
 };
+use crate::net_words::{check_words, links, paths_in, picture_words, why_words};
+use crate::program::command;
+use crate::words::{BaseWords, NetWords, ParsedLine, PurgeWords, StationWords, Words};
 use clap::error::ErrorKind;
 use clap::{ArgMatches, Command, Error};
 use std::alloc::{AllocError, Global};
-
-// The paths: words of this name, or the lines of a list.
-fn paths_in<'a>(
-    alloc: Global,
-    matches: &ArgMatches<'a>,
-    id: &str,
-    from: &str,
-) -> Result<Paths<'a>, AllocError> {
-    Ok(Paths {
-        words: values(alloc, matches, id)?,
-        from: matches.get_str(from),
-    })
-}
-
-fn links<'a>(alloc: Global, matches: &ArgMatches<'a>) -> Result<Paths<'a>, AllocError> {
-    paths_in(alloc, matches, "LINKS", "links-from")
-}
-
-fn values<'a>(
-    alloc: Global,
-    matches: &ArgMatches<'a>,
-    id: &str,
-) -> Result<Vec<&'a str>, AllocError> {
-    Vec::from_slice(alloc, matches.get_strs(id).unwrap_or(&[]))
-}
-
-fn show_words<'a>(matches: &ArgMatches<'a>) -> Option<Words<'a>> {
-    Some(Words::Net(NetWords::Show {
-        hex: matches.get_flag("hex"),
-        text: matches.get_flag("text"),
-        packet: matches.get_str("PACKET")?,
-    }))
-}
-
-fn nodelist_words<'a>(matches: &ArgMatches<'a>) -> Option<Words<'a>> {
-    Some(Words::Net(NetWords::Nodelist {
-        find: matches.get_str("find"),
-        file: matches.get_str("FILE")?,
-    }))
-}
-
-// With `--all` the first word is a link file too.
-fn check_words<'a>(
-    alloc: Global,
-    matches: &ArgMatches<'a>,
-) -> Result<Option<Words<'a>>, AllocError> {
-    let mut links = links(alloc, matches)?;
-    let first = matches.get_str("TAG");
-    let all = matches.get_flag("all");
-    if let (true, Some(path)) = (all, first) {
-        links.words.insert(0, path)?;
-    }
-    if !all && first.is_none() {
-        return Ok(None);
-    }
-    Ok(Some(Words::Net(NetWords::Check(CheckWords {
-        nodelist: matches.get_str("nodelist"),
-        more: matches.get_flag("more"),
-        assume: values(alloc, matches, "assume")?,
-        assume_missing: matches.get_flag("assume-missing"),
-        without: values(alloc, matches, "without")?,
-        tag: if all { None } else { first },
-        links,
-    }))))
-}
-
-fn picture_words<'a>(
-    alloc: Global,
-    matches: &ArgMatches<'a>,
-) -> Result<Option<Words<'a>>, AllocError> {
-    let Some(tag) = matches.get_str("TAG") else {
-        return Ok(None);
-    };
-    Ok(Some(Words::Net(NetWords::Picture(PictureWords {
-        why: matches.get_flag("why"),
-        assume: values(alloc, matches, "assume")?,
-        assume_missing: matches.get_flag("assume-missing"),
-        without: values(alloc, matches, "without")?,
-        tag,
-        links: links(alloc, matches)?,
-    }))))
-}
-
-fn why_words<'a>(alloc: Global, matches: &ArgMatches<'a>) -> Result<Option<Words<'a>>, AllocError> {
-    let Some(tag) = matches.get_str("TAG") else {
-        return Ok(None);
-    };
-    Ok(Some(Words::Net(NetWords::Why(WhyWords {
-        assume: values(alloc, matches, "assume")?,
-        assume_missing: matches.get_flag("assume-missing"),
-        tag,
-        links: links(alloc, matches)?,
-    }))))
-}
-
-fn post_words<'a>(matches: &ArgMatches<'a>) -> Option<Words<'a>> {
-    let stated = stated_in(matches)?;
-    Some(Words::Station(StationWords::Post(PostWords {
-        area: matches.get_str("area")?,
-        to: matches.get_str("to")?,
-        from: matches.get_str("from")?,
-        subject: matches.get_str("subject")?,
-        serial: stated.serial,
-        at: stated.at,
-        reply: matches.get_str("reply"),
-        place: stated.place,
-    })))
-}
-
-#[derive(Clone, Copy)]
-struct Stated<'a> {
-    serial: &'a str,
-    at: &'a str,
-    place: Place<'a>,
-}
-
-fn stated_in<'a>(matches: &ArgMatches<'a>) -> Option<Stated<'a>> {
-    Some(Stated {
-        serial: matches.get_str("serial")?,
-        at: matches.get_str("at")?,
-        place: place_in(matches)?,
-    })
-}
-
-fn place_in<'a>(matches: &ArgMatches<'a>) -> Option<Place<'a>> {
-    Some(Place {
-        links: matches.get_str("LINKS")?,
-        base: matches.get_str("BASE")?,
-    })
-}
-
-fn post_mail_words<'a>(matches: &ArgMatches<'a>) -> Option<Words<'a>> {
-    let stated = stated_in(matches)?;
-    Some(Words::Station(StationWords::PostMail(PostMailWords {
-        charset: matches.get_str("charset"),
-        area: matches.get_str("area"),
-        to: matches.get_str("to"),
-        from: matches.get_str("from"),
-        subject: matches.get_str("subject"),
-        serial: stated.serial,
-        at: stated.at,
-        reply: matches.get_str("reply"),
-        place: stated.place,
-    })))
-}
-
-fn post_stored_words<'a>(matches: &ArgMatches<'a>) -> Option<Words<'a>> {
-    let stated = stated_in(matches)?;
-    Some(Words::Station(StationWords::PostStored(PostStoredWords {
-        area: matches.get_str("area")?,
-        serial: stated.serial,
-        at: stated.at,
-        message: matches.get_str("msg")?,
-        place: stated.place,
-    })))
-}
-
-fn post_jam_words<'a>(matches: &ArgMatches<'a>) -> Option<Words<'a>> {
-    let stated = stated_in(matches)?;
-    Some(Words::Station(StationWords::PostJam(PostJamWords {
-        area: matches.get_str("area")?,
-        serial: stated.serial,
-        at: stated.at,
-        jam: matches.get_str("jam")?,
-        place: stated.place,
-    })))
-}
-
-fn reply_words<'a>(matches: &ArgMatches<'a>) -> Option<Words<'a>> {
-    let stated = stated_in(matches)?;
-    Some(Words::Station(StationWords::Reply(ReplyWords {
-        from: matches.get_str("from")?,
-        serial: stated.serial,
-        at: stated.at,
-        index: matches.get_str("I")?,
-        place: stated.place,
-    })))
-}
-
-fn toss_words<'a>(matches: &ArgMatches<'a>, packets: Paths<'a>) -> Option<Words<'a>> {
-    Some(Words::Station(StationWords::Toss(TossWords {
-        each: matches.get_flag("each"),
-        text_limit: matches.get_str("text-limit"),
-        place: place_in(matches)?,
-        packets,
-    })))
-}
-
-fn scan_words<'a>(matches: &ArgMatches<'a>) -> Option<Words<'a>> {
-    Some(Words::Station(StationWords::Scan(ScanWords {
-        at: matches.get_str("at")?,
-        place: place_in(matches)?,
-        folder: matches.get_str("DIR")?,
-    })))
-}
-
-fn purge_words<'a>(matches: &ArgMatches<'a>) -> Option<Words<'a>> {
-    Some(Words::Station(StationWords::Purge(place_in(matches)?)))
-}
-
-fn list_words<'a>(matches: &ArgMatches<'a>) -> Option<Words<'a>> {
-    Some(Words::Base(BaseWords::List(ListWords {
-        short: matches.get_flag("short"),
-        areas: matches.get_flag("areas"),
-        ids: matches.get_flag("ids"),
-        area: matches.get_str("area"),
-        from: matches.get_str("from"),
-        base: matches.get_str("BASE")?,
-    })))
-}
-
-fn export_words<'a>(matches: &ArgMatches<'a>) -> Option<Words<'a>> {
-    Some(Words::Base(BaseWords::Export(ExportWords {
-        json: matches.get_flag("json"),
-        purged: matches.get_flag("purged"),
-        area: matches.get_str("area"),
-        from: matches.get_str("from"),
-        base: matches.get_str("BASE")?,
-    })))
-}
-
-fn export_stored_words<'a>(matches: &ArgMatches<'a>) -> Option<Words<'a>> {
-    Some(Words::Base(BaseWords::ExportStored(ExportStoredWords {
-        folder: matches.get_str("msg")?,
-        area: matches.get_str("area")?,
-        from: matches.get_str("from"),
-        base: matches.get_str("BASE")?,
-    })))
-}
-
-fn export_jam_words<'a>(matches: &ArgMatches<'a>) -> Option<Words<'a>> {
-    Some(Words::ExportJam(ExportJamWords {
-        jam: matches.get_str("jam")?,
-        area: matches.get_str("area")?,
-        from: matches.get_str("from"),
-        base: matches.get_str("BASE")?,
-    }))
-}
-
-fn resend_words<'a>(matches: &ArgMatches<'a>) -> Option<Words<'a>> {
-    Some(Words::Base(BaseWords::Resend(ResendWords {
-        all: matches.get_flag("all"),
-        has: matches.get_str("has"),
-        area: matches.get_str("area")?,
-        to: matches.get_str("to")?,
-        from: matches.get_str("from"),
-        at: matches.get_str("at")?,
-        place: place_in(matches)?,
-        folder: matches.get_str("DIR")?,
-    })))
-}
-
-fn convert_words<'a>(matches: &ArgMatches<'a>) -> Option<Words<'a>> {
-    Some(Words::Base(BaseWords::Convert {
-        from: matches.get_str("FROM")?,
-        to: matches.get_str("TO")?,
-    }))
-}
-
-fn replay_words<'a>(matches: &ArgMatches<'a>, links: Paths<'a>) -> Option<Words<'a>> {
-    Some(Words::Net(NetWords::Replay {
-        script: matches.get_str("SCRIPT")?,
-        links,
-    }))
-}
 
 const LINKS_TWICE: &str = "the argument '--links-from <FILE>' cannot be used with '[LINKS]...'";
 
@@ -285,35 +22,180 @@ fn names_links_twice(given: &ArgMatches<'_>) -> bool {
     list && tag && given.get_flag("all")
 }
 
-fn links_words<'a>(
-    alloc: Global,
-    matches: &ArgMatches<'a>,
-) -> Result<Option<Words<'a>>, AllocError> {
-    Ok(Some(Words::Net(NetWords::Links {
-        areas: matches.get_flag("areas"),
-        links: links(alloc, matches)?,
-    })))
-}
-
-fn posting_words<'a>(given: &ArgMatches<'a>) -> Option<Words<'a>> {
+fn posting_words<'a>(given: &ArgMatches<'a>) -> Option<StationWords<'a>> {
     if given.get_flag("mail") {
-        post_mail_words(given)
+        match post_mail_words(given) {
+            Some(words) => Some(StationWords::PostMail(words)),
+            None => None,
+        }
     } else if given.get_str("msg").is_some() {
-        post_stored_words(given)
-    } else if given.get_str("jam").is_some() {
-        post_jam_words(given)
+        match post_stored_words(given) {
+            Some(words) => Some(StationWords::PostStored(words)),
+            None => None,
+        }
     } else {
-        post_words(given)
+        posting_more(given)
     }
 }
 
-fn exporting_words<'a>(given: &ArgMatches<'a>) -> Option<Words<'a>> {
-    if given.get_str("msg").is_some() {
-        export_stored_words(given)
-    } else if given.get_str("jam").is_some() {
-        export_jam_words(given)
+fn posting_more<'a>(given: &ArgMatches<'a>) -> Option<StationWords<'a>> {
+    if given.get_str("jam").is_some() {
+        match post_jam_words(given) {
+            Some(words) => Some(StationWords::PostJam(words)),
+            None => None,
+        }
     } else {
-        export_words(given)
+        match post_words(given) {
+            Some(words) => Some(StationWords::Post(words)),
+            None => None,
+        }
+    }
+}
+
+fn tossing_words<'a>(
+    alloc: Global,
+    given: &ArgMatches<'a>,
+) -> Result<Option<StationWords<'a>>, AllocError> {
+    match place_in(given) {
+        Some(place) => {
+            let packets = paths_in(alloc, given, "PACKET", "packets-from")?;
+            Ok(Some(StationWords::Toss(toss_words(given, place, packets))))
+        }
+        None => Ok(None),
+    }
+}
+
+// The words of a command that changes the base of a station.
+fn station_words<'a>(command: &str, given: &ArgMatches<'a>) -> Option<StationWords<'a>> {
+    match command {
+        "post" => posting_words(given),
+        "reply" => match reply_words(given) {
+            Some(words) => Some(StationWords::Reply(words)),
+            None => None,
+        },
+        "scan" => match scan_words(given) {
+            Some(words) => Some(StationWords::Scan(words)),
+            None => None,
+        },
+        "purge" => match place_in(given) {
+            Some(place) => Some(StationWords::Purge(PurgeWords {
+                area: given.get_str("area"),
+                to: given.get_str("to"),
+                place,
+            })),
+            None => None,
+        },
+        _ => None,
+    }
+}
+
+// The words of a command that reads a base, and changes none.
+fn base_words<'a>(command: &str, given: &ArgMatches<'a>) -> Option<BaseWords<'a>> {
+    match command {
+        "list" => match list_words(given) {
+            Some(words) => Some(BaseWords::List(words)),
+            None => None,
+        },
+        "export" => exporting_words(given),
+        "resend" => match resend_words(given) {
+            Some(words) => Some(BaseWords::Resend(words)),
+            None => None,
+        },
+        "convert" => match (given.get_str("FROM"), given.get_str("TO")) {
+            (Some(from), Some(to)) => Some(BaseWords::Convert { from, to }),
+            _ => None,
+        },
+        _ => None,
+    }
+}
+
+fn exporting_words<'a>(given: &ArgMatches<'a>) -> Option<BaseWords<'a>> {
+    if given.get_str("msg").is_some() {
+        match export_stored_words(given) {
+            Some(words) => Some(BaseWords::ExportStored(words)),
+            None => None,
+        }
+    } else {
+        match export_words(given) {
+            Some(words) => Some(BaseWords::Export(words)),
+            None => None,
+        }
+    }
+}
+
+// The words of a command that reads no base.
+fn net_words<'a>(
+    alloc: Global,
+    command: &str,
+    given: &ArgMatches<'a>,
+) -> Result<Option<NetWords<'a>>, AllocError> {
+    match command {
+        "show" => Ok(show_words(given)),
+        "nodelist" => Ok(nodelist_words(given)),
+        "links" => {
+            let links = links(alloc, given)?;
+            let areas = given.get_flag("areas");
+            Ok(Some(NetWords::Links { areas, links }))
+        }
+        "check" => match check_words(alloc, given) {
+            Ok(Some(words)) => Ok(Some(NetWords::Check(words))),
+            Ok(None) => Ok(None),
+            Err(refused) => Err(refused),
+        },
+        "replay" => replay_words(alloc, given),
+        _ => tagged_words(alloc, command, given),
+    }
+}
+
+fn show_words<'a>(given: &ArgMatches<'a>) -> Option<NetWords<'a>> {
+    match given.get_str("PACKET") {
+        Some(packet) => Some(NetWords::Show {
+            hex: given.get_flag("hex"),
+            text: given.get_flag("text"),
+            packet,
+        }),
+        None => None,
+    }
+}
+
+fn nodelist_words<'a>(given: &ArgMatches<'a>) -> Option<NetWords<'a>> {
+    match given.get_str("FILE") {
+        Some(file) => Some(NetWords::Nodelist {
+            find: given.get_str("find"),
+            file,
+        }),
+        None => None,
+    }
+}
+
+fn replay_words<'a>(
+    alloc: Global,
+    given: &ArgMatches<'a>,
+) -> Result<Option<NetWords<'a>>, AllocError> {
+    match given.get_str("SCRIPT") {
+        Some(script) => {
+            let links = links(alloc, given)?;
+            Ok(Some(NetWords::Replay { script, links }))
+        }
+        None => Ok(None),
+    }
+}
+
+fn tagged_words<'a>(
+    alloc: Global,
+    command: &str,
+    given: &ArgMatches<'a>,
+) -> Result<Option<NetWords<'a>>, AllocError> {
+    match given.get_str("TAG") {
+        Some(tag) if command == "why" => match why_words(alloc, given, tag) {
+            Ok(words) => Ok(Some(NetWords::Why(words))),
+            Err(refused) => Err(refused),
+        },
+        Some(tag) if command == "picture" => match picture_words(alloc, given, tag) {
+            Ok(words) => Ok(Some(NetWords::Picture(words))),
+            Err(refused) => Err(refused),
+        },
+        _ => Ok(None),
     }
 }
 
@@ -323,34 +205,40 @@ fn words_of<'a>(
     given: &ArgMatches<'a>,
 ) -> Result<Option<Words<'a>>, AllocError> {
     match command {
-        "show" => Ok(show_words(given)),
-        "nodelist" => Ok(nodelist_words(given)),
-        "links" => links_words(alloc, given),
-        "check" => check_words(alloc, given),
-        "why" => why_words(alloc, given),
-        "picture" => picture_words(alloc, given),
-        "replay" => Ok(replay_words(given, links(alloc, given)?)),
-        _ => base_words(alloc, command, given),
+        "show" | "nodelist" | "links" | "check" | "why" | "picture" | "replay" => {
+            match net_words(alloc, command, given) {
+                Ok(Some(words)) => Ok(Some(Words::Net(words))),
+                Ok(None) => Ok(None),
+                Err(refused) => Err(refused),
+            }
+        }
+        "toss" => match tossing_words(alloc, given) {
+            Ok(Some(words)) => Ok(Some(Words::Station(words))),
+            Ok(None) => Ok(None),
+            Err(refused) => Err(refused),
+        },
+        _ => Ok(other_words(command, given)),
     }
 }
 
-fn base_words<'a>(
-    alloc: Global,
-    command: &str,
-    given: &ArgMatches<'a>,
-) -> Result<Option<Words<'a>>, AllocError> {
-    Ok(match command {
-        "post" => posting_words(given),
-        "reply" => reply_words(given),
-        "toss" => toss_words(given, paths_in(alloc, given, "PACKET", "packets-from")?),
-        "scan" => scan_words(given),
-        "purge" => purge_words(given),
-        "list" => list_words(given),
-        "export" => exporting_words(given),
-        "resend" => resend_words(given),
-        "convert" => convert_words(given),
-        _ => None,
-    })
+// The words of a command without a list of files.
+fn other_words<'a>(command: &str, given: &ArgMatches<'a>) -> Option<Words<'a>> {
+    match command {
+        "export" if given.get_str("msg").is_none() && given.get_str("jam").is_some() => {
+            match export_jam_words(given) {
+                Some(words) => Some(Words::ExportJam(words)),
+                None => None,
+            }
+        }
+        "list" | "export" | "resend" | "convert" => match base_words(command, given) {
+            Some(words) => Some(Words::Base(words)),
+            None => None,
+        },
+        _ => match station_words(command, given) {
+            Some(words) => Some(Words::Station(words)),
+            None => None,
+        },
+    }
 }
 
 /// Parses the command line. Refused words are an error, and so is a request for help. `None` is a command that the program

@@ -1,43 +1,22 @@
 //! The parser of the command line: all commands, and the word that each of them takes.
 
 use crate::commands::{CHANGING, Entry, LOOKING, PROGRAM_ENDING, READING};
-use crate::forms::subcommand;
-use clap::{Arg, ArgAction, Command};
+use crate::forms::{TakePart, flag, with_all};
+use clap::{Arg, Command};
 use std::alloc::{AllocError, Global};
 
 /// The version that `--version` prints after the name.
 const VERSION: &str = "0.1.0";
 
-fn with_commands<'a>(
-    alloc: Global,
-    program: Command<'a>,
-    table: &'static [Entry],
-) -> Result<Command<'a>, AllocError> {
-    let mut program = program;
-    for entry in table {
-        program = program.subcommand(subcommand(alloc, *entry)?)?;
-    }
-    Ok(program)
-}
-
-fn with_looking<'a>(alloc: Global, program: Command<'a>) -> Result<Command<'a>, AllocError> {
-    with_commands(alloc, program, LOOKING)
-}
-
-fn with_changing<'a>(alloc: Global, program: Command<'a>) -> Result<Command<'a>, AllocError> {
-    with_commands(alloc, program, CHANGING)
-}
-
-fn with_reading<'a>(alloc: Global, program: Command<'a>) -> Result<Command<'a>, AllocError> {
-    with_commands(alloc, program, READING)
-}
-
 fn explain_word<'a>(alloc: Global) -> Arg<'a> {
-    Arg::new(alloc, "explain")
-        .long("explain")
-        .action(ArgAction::SetTrue)
-        .global(true)
-        .help("Also prints in words why a command stopped, as on a terminal")
+    let word = flag(Arg::new(alloc, "explain"), "explain").global(true);
+    word.help("Also prints in words why a command stopped, as on a terminal")
+}
+
+fn with_commands<C: TakePart<Entry>>(alloc: Global, program: C) -> Result<C, AllocError> {
+    let program = with_all(alloc, program, LOOKING)?;
+    let program = with_all(alloc, program, CHANGING)?;
+    with_all(alloc, program, READING)
 }
 
 pub(crate) fn command<'a>(alloc: Global) -> Result<Command<'a>, AllocError> {
@@ -46,8 +25,8 @@ pub(crate) fn command<'a>(alloc: Global) -> Result<Command<'a>, AllocError> {
         .version(VERSION)
         .after_help(PROGRAM_ENDING)
         .subcommand_required(true);
-    let program = program.arg(explain_word(alloc))?;
-    let program = with_looking(alloc, program)?;
-    let program = with_changing(alloc, program)?;
-    with_reading(alloc, program)
+    match program.arg(explain_word(alloc)) {
+        Ok(program) => with_commands(alloc, program),
+        Err(refused) => Err(refused),
+    }
 }

@@ -1,3 +1,5 @@
+//! Why a command line asks for no command, and the lines that say so.
+
 use clap::Error;
 use clap::error::ErrorKind;
 

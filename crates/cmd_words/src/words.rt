@@ -1,3 +1,5 @@
+//! The words of each command, by the names of its options and files.
+
 /// The command and its words. A path can be `-`.
 #[derive(Drop)]
 pub enum Words<'a> {
@@ -52,7 +54,7 @@ pub enum StationWords<'a> {
     Reply(ReplyWords<'a>),
     Toss(TossWords<'a>),
     Scan(ScanWords<'a>),
-    Purge(Place<'a>),
+    Purge(PurgeWords<'a>),
 }
 
 /// The paths of the link file and of the base of a station.
@@ -96,6 +98,7 @@ pub struct PictureWords<'a> {
 /// The words of `why`.
 #[derive(Drop)]
 pub struct WhyWords<'a> {
+    pub fault: Option<&'a str>,
     pub assume: Vec<&'a str>,
     pub assume_missing: bool,
     pub tag: &'a str,
@@ -205,6 +208,14 @@ pub struct TossWords<'a> {
     pub text_limit: Option<&'a str>,
     pub place: Place<'a>,
     pub packets: Paths<'a>,
+}
+
+/// The words of `purge`. Without an area or a number it purges all.
+#[derive(Clone, Copy)]
+pub struct PurgeWords<'a> {
+    pub area: Option<&'a str>,
+    pub to: Option<&'a str>,
+    pub place: Place<'a>,
 }
 
 /// The words of `scan`.

@@ -1,3 +1,5 @@
+//! Staging files of a scan that stopped are removed.
+
 ghost use Rattle.std.specs.Prelude.{◌≡◌, All, AllPairs, None, OnOk};
 ghost use Rattle.disk_io.specs.{Disk.Honestly, Disk.IsIn, Runs.HasCause};
 ghost use Rattle.disk_atomic.specs.{Outgoing.{AreApart, ArePlaced, IsAtStaging, IsStagingOne, IsStagingGone, IsStagingNamed, IsOfOne}, Changes.ChangesOnly};

@@ -1,3 +1,5 @@
+//! The trait that lists a station's staging files.
+
 ghost use Rattle.std.specs.Prelude.{ℕ, IfOk};
 ghost use Rattle.disk_io.specs.{Disk.Files, Runs.HasCause};
 ghost use Rattle.disk_atomic.specs.ListStaged.{AreListed};

@@ -1,3 +1,5 @@
+//! The staging path of a file.
+
 ghost use Rattle.std.specs.Prelude.{◌≡◌, IfOk};
 ghost use Rattle.disk_atomic.specs.StagingPaths.{staging_path};
 

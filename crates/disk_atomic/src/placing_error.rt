@@ -1,3 +1,5 @@
+//! Why a packet did not get its name.
+
 use disk_io::DiskError;
 use std::alloc::AllocError;
 use thiserror::Error;

@@ -1,3 +1,5 @@
+//! A file whose bytes are replaced at once.
+
 ghost use Rattle.std.specs.Prelude.{◌≡◌, ◌≢◌, ◌⊎◌, None, OnOk};
 ghost use Rattle.disk_io.specs.{Disk.IsIn, Runs.HasCause, Runs.LeavesOnly, Runs.OneStepOn};
 ghost use Rattle.disk_atomic.specs.{Changes.ChangesOnly, Changes.HasOnDisk, Replacing.Replaces};

@@ -1,3 +1,5 @@
+//! The staging files of a scan, made.
+
 ghost use Rattle.std.specs.Prelude.{◌≡◌, ℕ, List, true, false, All, AllPairs, IfOk, OnOk};
 ghost use Rattle.disk_io.specs.{Disk.Honestly, Disk.IsIn, Runs.ChangesNothing, Runs.HasCause};
 ghost use Rattle.disk_atomic.specs.{Outgoing.{AreApart, ArePlaced, IsStagingOne, IsFree, IsMade, IsStagingNamed}, Changes.ChangesOnly};

@@ -1,3 +1,5 @@
+//! A source with a buffer before it.
+
 ghost use Rattle.std.specs.{Prelude.◌≡◌, Prelude.[], Prelude.length, Prelude.◌<◌, Prelude.IfOk, Prelude.OnOk, Prelude.OnErr, Io.ReadsAtMost, Io.KnownBytes.Keeps, Io.KnownBytes.IsAtEnd, Io.KnownBytes.ReadConsumes};
 ghost use Rattle.disk_io.specs.{Device.Failed, Buffered.buffered_source, Buffered.buffered_held, Buffered.buffered_remaining};
 

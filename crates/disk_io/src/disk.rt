@@ -1,3 +1,5 @@
+//! The trait of a disk that a crash may cut short.
+
 ghost use Rattle.std.specs.Prelude.{◌≡◌, ◌≢◌, ◌≤◌, ◌<◌, ◌↔◌, ℕ, List, [], length, take, drop, true, false, IsTrue, IfOk, OnOk, IsSome, Some, None};
 ghost use Rattle.disk_io.specs.{Disk.DiskState, Disk.Honestly, Disk.bytes_in, Disk.IsFolder, Disk.IsIn, Runs.NoPath, Runs.ThisPath, Runs.EitherPath, Runs.ChangesAt, Runs.ChangesNothing, Runs.HasCause, Steps.IsWrittenAt, Steps.TornWrite, Steps.TornMaking, Steps.TornRemoval, Steps.TornNaming, Steps.ChangesFile, Steps.RenamesFile};
 

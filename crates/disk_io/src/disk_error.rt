@@ -1,3 +1,5 @@
+//! Why a call of a disk failed.
+
 use std::alloc::{AllocError, AllocFailed};
 use thiserror::Error;
 

@@ -1,3 +1,5 @@
+//! The failure of a device.
+
 use thiserror::Error;
 
 /// A device failed. The device itself counts how often, and its contract says when.

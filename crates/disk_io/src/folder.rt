@@ -1,3 +1,5 @@
+//! The folder of a path, synced.
+
 ghost use Rattle.std.specs.Prelude.{◌≡◌, ℕ, List, None, OnOk};
 ghost use Rattle.disk_io.specs.{Disk.IsFolder, Disk.IsIn, Runs.ChangesNothing, Runs.HasCause};
 

@@ -1,3 +1,5 @@
+//! The trait of a writer that counts its failures.
+
 ghost use Rattle.std.specs.Prelude.{◌≡◌, ℕ, ◌<◌, Bool, false, length, IfOk, OnOk, OnErr};
 ghost use Rattle.std.specs.Io.{WritesAtMost, KnownBytes.Keeps, KnownBytes.WriteAppends};
 ghost use Rattle.disk_io.specs.Device.{Failed, Sends};

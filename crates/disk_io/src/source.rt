@@ -1,3 +1,5 @@
+//! The trait of a reader that counts its failures.
+
 ghost use Rattle.std.specs.Prelude.{◌≡◌, ℕ, ◌+◌, ◌<◌, ◌≤◌, List, length, take, drop, IfSome, IfOk, OnOk, OnErr};
 ghost use Rattle.std.specs.Io.{ReadsAtMost, StartsWith, KnownBytes.Consumes, KnownBytes.ReadConsumes};
 ghost use Rattle.disk_io.specs.Device.{Failed, Fills};

@@ -1,3 +1,5 @@
+//! Bytes that are written and then flushed.
+
 ghost use Rattle.std.specs.Prelude.{◌≤◌, length, OnOk};
 ghost use Rattle.disk_io.specs.{Disk.Honestly, Disk.bytes_in, Steps.IsWrittenAt, Steps.TornWrite, Steps.ChangesFile, Runs.OneStepOn, Runs.LeavesOnly, Runs.HasCause, Synced.IsOnDisk, Synced.KeepsOthers};
 

@@ -1,3 +1,5 @@
+//! A device for tests: it moves small pieces, is interrupted, and fails.
+
 ghost use Rattle.std.specs.{Prelude.◌≡◌, Prelude.◌<◌, Prelude.◌≤◌, Prelude.IfOk, Prelude.IsErr, Io.ReadsAtMost, Io.WritesAtMost, Io.KnownBytes.Keeps, Io.KnownBytes.ReadConsumes, Io.KnownBytes.WriteAppends};
 ghost use Rattle.disk_io.specs.Trial.{trial_device, trial_piece, trial_again, trial_interrupted, trial_left, KeepsRules, MovesPiece};
 

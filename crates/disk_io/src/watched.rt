@@ -1,3 +1,5 @@
+//! A reader or writer of Rust as a source or sink.
+
 ghost use Rattle.std.specs.Prelude.{◌≡◌, ◌≢◌, ◌↔◌, ◌+◌, ◌<◌, [], false, length, IsTrue, IfOk, OnOk, IfErr, OnErr};
 ghost use Rattle.std.specs.{Io.ReadsAtMost, Io.WritesAtMost, Io.KnownBytes.Keeps, Io.KnownBytes.ReadConsumes, Io.KnownBytes.WriteAppends, IoError.error_kind};
 ghost use Rattle.disk_io.specs.{Device.Failed, Device.counted, Watched.watched_device, Watched.watched_failures, Watched.watched_holds};

@@ -1,3 +1,5 @@
+//! Why an input could not be read.
+
 ghost use Rattle.std.specs.Prelude.{◌≡◌, ◌≢◌, ◌≤◌, ◌<◌, ◌++◌, length, replicate, IfErr, IfOk, IfSome, IsErrOf, OnOk};
 ghost use Rattle.disk_io.specs.Device.{Failed};
 ghost use Rattle.disk_system.specs.{declared.input.InputFault.TheVariants.Device, declared.input.InputFault.TheVariants.Memory, declared.input.InputFault.TheVariants.TooLarge, Input.ReadsOn};

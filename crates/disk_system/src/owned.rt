@@ -1,3 +1,5 @@
+//! The owner of an open file, changed.
+
 use std::fs::File;
 use std::os::unix::fs::fchown;
 

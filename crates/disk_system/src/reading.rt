@@ -1,3 +1,5 @@
+//! Whole files of the system, read.
+
 ghost use Rattle.std.specs.Prelude.{◌≡◌, ◌≤◌, ◌↔◌, length, IfOk, IfSome, IsTrue};
 ghost use Rattle.std.specs.IoError.{error_kind};
 

@@ -110,3 +110,9 @@ Completes-all prefix xs rest before text empty completes =
     let P : List NetNode → Type 0 = λ l. ShortLines prefix l [] in
     let Q : List ℕ → Type 0 = λ b. AddsLines prefix xs before b in
     subst Q (append-nil text) (completes [] (subst P (sym (nil_from_length rest empty)) (ShortLines-nil prefix)))
+
+-- Lines that were added to no bytes.
+pub lines_alone : (prefix : List ℕ) (xs : List NetNode) (before text : List ℕ) → before ≡ [] → AddsLines prefix xs before text → ShortLines prefix xs text
+lines_alone prefix xs before text none adds =
+    let P : List ℕ → Type 0 = λ b. ShortLines prefix xs b in
+    subst P (sym (adds.whole ∙ ap (λ b. b ++ adds.added) none)) adds.lines

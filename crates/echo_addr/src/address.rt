@@ -1,3 +1,5 @@
+//! Addresses of systems, zone:net/node, and their net and node.
+
 ghost use Rattle.std.specs.Prelude.{◌≡◌, ◌↔◌, ◌&&◌, false, min, IsNone, IfSome};
 ghost use Rattle.std.specs.Str.Parse.{digits_value};
 ghost use Rattle.echo_addr.specs.Address.{AddressOf, address_text, address_within, has_shape, net_node_of, net_node_text, net_part, node_part, outcome, refusal, zone_part};

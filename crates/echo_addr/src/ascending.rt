@@ -1,3 +1,5 @@
+//! Values in ascending order, each once.
+
 ghost use Rattle.std.specs.{Prelude.◌≡◌, Prelude.◌↔◌, Prelude.true, Prelude.Contains, List.Sorted.IsStrictlySortedBy};
 
 /// Puts the values in ascending order and leaves out repeats. Takes no memory.

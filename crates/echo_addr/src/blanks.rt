@@ -1,3 +1,5 @@
+//! The blanks of message texts.
+
 ghost use Rattle.std.specs.Prelude.{◌≡◌};
 ghost use Rattle.echo_addr.specs.Entries.{is_blank};
 

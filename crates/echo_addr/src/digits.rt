@@ -1,3 +1,5 @@
+//! Decimal digits as a number.
+
 ghost use Rattle.std.specs.Prelude.{◌≡◌, ◌<◌, ◌^◌, ◌↔◌, false, min, IsNone, IfSome};
 ghost use Rattle.std.specs.Str.Parse.{digits_value};
 ghost use Rattle.echo_addr.specs.Digits.{is_number};

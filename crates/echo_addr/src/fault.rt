@@ -1,3 +1,5 @@
+//! The faults of addresses, A1 to A4.
+
 use std::fmt;
 use thiserror::Error;
 

@@ -1,3 +1,5 @@
+//! A `Vec` that no later call grows.
+
 ghost use Rattle.std.specs.Prelude.{◌≡◌, ◌↔◌, List, [], IsTrue, length};
 ghost use Rattle.std.specs.{Cmp.Lexicographic.pointwise, Cmp.Lexicographic.lists_per, Cmp.Lexicographic.lists_equiv, Hash.items_Alike};
 ghost use Rattle.std.specs.Hash as fed;

@@ -1,3 +1,5 @@
+//! The entries of a SEEN-BY or PATH line, read (FTS-0004).
+
 ghost use Rattle.std.specs.Prelude.{◌≡◌, ◌<◌, [], ◌∷◌, ◌++◌, drop, length, take, not, position, Some, MatchOption, IfOk, IfSome, OnOk, OnErr};
 ghost use Rattle.std.specs.{List.position_or_len, Option.option_or};
 ghost use Rattle.echo_addr.specs.Entries.{dropped, entries, entry_from, is_blank, pair_of, part_of, tokens};

@@ -1,3 +1,5 @@
+//! Offsets and counts as u64, never above its greatest value.
+
 ghost use Rattle.std.specs.Prelude.{◌≡◌, ◌==◌, position, count_by};
 
 pub(crate) fn count(bytes: &[u8], wanted: u8) -> usize

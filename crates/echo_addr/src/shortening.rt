@@ -1,12 +1,36 @@
-ghost use Rattle.std.specs.Prelude.{◌≡◌, ◌+◌, ◌-◌, ◌<◌, ◌≤◌, [], ◌∷◌, ◌++◌, length, take, drop, decimal, AllPairs, OnOk};
-ghost use Rattle.echo_addr.specs.ShortLines.{AddsLines, ComesBefore, entries_text, entry_text, entry_token, path_prefix, seen_prefix, shows_net};
+//! SEEN-BY and PATH lines, written with shortened entries (FTS-0004).
+
+ghost use Rattle.std.specs.Prelude.{◌≡◌, ◌+◌, ◌-◌, ◌<◌, ◌≤◌, [], ◌∷◌, ◌++◌, length, take, drop, decimal, AllPairs, IfOk, OnOk};
+ghost use Rattle.echo_addr.specs.ShortLines.{AddsLines, ComesBefore, ShortLines, entries_text, entry_text, entry_token, path_prefix, seen_prefix, shows_net};
 
 use crate::address::NetNode;
 use itoa::write_digits;
-use std::alloc::AllocError;
+use std::alloc::{AllocError, Global};
 
 /// The most bytes of a line before its 0D.
 const LINE_ROOM: usize = 79;
+
+/// The SEEN-BY lines of the entries (FTS-0004), each with its 0D. The entries ascend by net and node, each once. An
+/// empty list has no bytes.
+#[tactic(auto, using(crate::proofs::Runs::lines_alone))]
+pub fn write_seen(alloc: Global, entries: &[NetNode]) -> Result<Vec<u8>, AllocError>
+    requires { AllPairs ComesBefore entries.now }
+    ensures { IfOk result (λ lines. ShortLines seen_prefix entries.now lines.items) }
+{
+    let mut lines = Vec::new(alloc);
+    push_seen(&mut lines, entries)?;
+    Ok(lines)
+}
+
+/// The PATH lines of the entries (FTS-0004) in the same way, in any order and with repeats, each with its 01 and 0D.
+#[tactic(auto, using(crate::proofs::Runs::lines_alone))]
+pub fn write_path(alloc: Global, entries: &[NetNode]) -> Result<Vec<u8>, AllocError>
+    ensures { IfOk result (λ lines. ShortLines path_prefix entries.now lines.items) }
+{
+    let mut lines = Vec::new(alloc);
+    push_path(&mut lines, entries)?;
+    Ok(lines)
+}
 
 /// Adds the SEEN-BY lines of the entries (FTS-0004), each with its 0D. The entries ascend by net and node, each once.
 pub fn push_seen(text: &mut Vec<u8>, entries: &[NetNode]) -> Result<(), AllocError>

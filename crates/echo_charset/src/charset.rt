@@ -1,3 +1,5 @@
+//! The character sets that messages name, each with its text in UTF-8.
+
 ghost use Rattle.std.specs.{Prelude.{◌≡◌, ◌<◌, bytes_eq, map, string_bytes, IfOk}, Char.to_ascii_lowercase};
 
 use crate::tables::{CP437, CP850, CP866, CP1251, KOI8_R};

@@ -1,3 +1,5 @@
+//! Characters that a text lost.
+
 ghost use Rattle.std.specs.Prelude.{◌≡◌, ◌≤◌, length, slice_index};
 ghost use Rattle.echo_charset.specs.Losses.{begins_lost, lost};
 

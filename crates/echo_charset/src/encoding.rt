@@ -1,3 +1,5 @@
+//! A text of UTF-8 in a charset of one byte a character.
+
 ghost use Rattle.std.specs.Prelude.{◌≡◌, ◌+◌, ◌<◌, ◌≤◌, IfOk, MatchOption};
 ghost use Rattle.echo_charset.specs.{Charset.character as byte_char, Charset.characters, Charset.decoded_text, Encoding.IsLacked, Encoding.Lacks, Encoding.LacksOne};
 

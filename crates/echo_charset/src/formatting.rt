@@ -1,3 +1,5 @@
+//! The answer of a formatted write to memory.
+
 ghost use Rattle.std.specs.Prelude.{IsOk, OnOk};
 
 use std::alloc::AllocError;

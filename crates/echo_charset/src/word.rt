@@ -1,3 +1,5 @@
+//! Characters of UTF-8, found in bytes.
+
 ghost use Rattle.std.specs.Prelude.{◌≡◌, ◌++◌, ◌<◌, length, slice_index, OnOk};
 ghost use Rattle.echo_charset.specs.Words.{are_shown, begins_four, begins_three, doubled, follows, is_covered, is_direction, is_four, is_one, is_shown, is_three, is_two, printed_word, spelled, spelled_at, visible_at, visible_of};
 

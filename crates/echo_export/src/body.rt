@@ -1,69 +1,39 @@
-ghost use Rattle.std.specs.Prelude.{◌≡◌, ◌++◌, [], codes, if◌then◌else◌, true, OnOk};
-ghost use Rattle.echo_text.specs.Lines.{lines};
-ghost use Rattle.echo_export.specs.MailText.{body_line, body_text, quoted_body};
+//! The body of a mail.
 
-use crate::header::{mail_bytes, push_bytes};
+use crate::header::mail_bytes;
 use echo_charset::Charset;
 use echo_text::{after_feeds, is_control, split_line};
 use std::alloc::{AllocError, Global};
 
-/// The word that no line of a mailbox may begin with.
-const FROM: &[u8] = b"From ";
-
-pub(crate) fn push_body(
-    mail: &mut Vec<u8>,
+/// The kept lines as the body of a mail: in UTF-8 if the charset is known, without kludge lines.
+pub(crate) fn body_of(
     alloc: Global,
     charset: Option<Charset>,
     kept: &[u8],
-) -> Result<(), AllocError>
-    ensures { OnOk result (mail.new.items ≡ mail.old.items ++ body_text charset (lines kept.now)) }
-{
+) -> Result<Vec<u8>, AllocError> {
+    let mut body = Vec::new(alloc);
     let mut rest = kept;
-    'kept: while !rest.is_empty() {
+    'lines: while !rest.is_empty() {
         let (line, after) = split_line(rest);
-        push_line(mail, alloc, charset, line)?;
+        if !is_control(line) {
+            let text = mail_bytes(alloc, charset, after_feeds(line))?;
+            push_quoted(&mut body, &text)?;
+            body.push(b'\n')?;
+        }
         rest = after;
     }
-    Ok(())
+    Ok(body)
 }
 
-fn push_line(
-    mail: &mut Vec<u8>,
-    alloc: Global,
-    charset: Option<Charset>,
-    line: &[u8],
-) -> Result<(), AllocError>
-    ensures { OnOk result (mail.new.items ≡ mail.old.items ++ body_line charset line.now) }
-{
-    if is_control(line) {
-        return Ok(());
-    }
-    let text = mail_bytes(alloc, charset, after_feeds(line))?;
-    push_quoted(mail, &text)?;
-    push_bytes(mail, b"\n")
-}
-
-fn push_quoted(mail: &mut Vec<u8>, text: &[u8]) -> Result<(), AllocError>
-    ensures { OnOk result (mail.new.items ≡ mail.old.items ++ quoted_body true text.now) }
-{
+// No line of a mailbox may begin with `From `.
+fn push_quoted(mail: &mut Vec<u8>, text: &[u8]) -> Result<(), AllocError> {
     let mut first = true;
-    let mut rest = text;
-    'text: while !rest.is_empty() {
-        push_mark(mail, first && rest.starts_with(FROM))?;
-        let byte = rest[0];
-        push_bytes(mail, &[byte])?;
-        first = byte == b'\n';
-        rest = &rest[1..];
+    for i in 0..text.len() {
+        if first && text[i..].starts_with(b"From ") {
+            mail.push(b'>')?;
+        }
+        mail.push(text[i])?;
+        first = text[i] == b'\n';
     }
     Ok(())
-}
-
-fn push_mark(mail: &mut Vec<u8>, wanted: bool) -> Result<(), AllocError>
-    ensures { OnOk result (mail.new.items ≡ mail.old.items ++ (if wanted then codes ">" else [])) }
-{
-    if wanted {
-        push_bytes(mail, b">")
-    } else {
-        Ok(())
-    }
 }

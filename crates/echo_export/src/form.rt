@@ -1,5 +1,4 @@
-ghost use Rattle.std.specs.Prelude.{◌≡◌, ◌++◌, IfOk, OnOk};
-ghost use Rattle.echo_export.specs.Forms.{message_lost, message_text};
+//! The forms of an exported message.
 
 use crate::json_line::{MessageState, push_json};
 use crate::mail::push_mail;
@@ -21,10 +20,7 @@ pub fn push_message(
     i: usize,
     state: MessageState,
     message: &Filed,
-) -> Result<usize, AllocError>
-    ensures text { OnOk result (lines.new.items ≡ lines.old.items ++ message_text form i state message.now) }
-    ensures lost { IfOk result (λ n. n ≡ message_lost form i state message.now) }
-{
+) -> Result<usize, AllocError> {
     match form {
         Form::Mailbox => push_mail(alloc, lines, message),
         Form::Json => push_json(alloc, lines, i, state, message),

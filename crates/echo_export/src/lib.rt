@@ -1,5 +1,5 @@
-//! Exports messages of a base in the forms that other programs read: mailbox and JSON. A call that succeeds appends
-//! just the text that the definitions in specs/ give. It answers how many U+FFFD replace characters that the charset
+//! Exports messages of a base in the forms that other programs read: mailbox and JSON. Each function is safe and ends;
+//! the forms are tested (export.cases). A message has a count of the U+FFFD that replace characters that its charset
 //! does not have. Begin with `form`.
 #![tactic(auto)]
 

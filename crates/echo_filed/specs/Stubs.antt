@@ -20,6 +20,7 @@ stub_with m (Some msgid) = record {
   echo = bare m.echo.tag msgid;
 }
 
+-- The message that a purge leaves: of one with an id just the id, else all of it.
 unfoldable pub stub_of : Filed → Filed
 stub_of m = stub_with m (msgid_of m.echo.kept)
 

@@ -1,3 +1,5 @@
+//! Items that many holders share.
+
 ghost use Rattle.std.specs.Cmp.Lexicographic.{bytes_decides, pointwise, pointwise_decides, lists_per, lists_equiv};
 ghost use Rattle.std.specs.{Prelude.◌≡◌, Prelude.List, Prelude.IfOk, Cmp.nat_eq_equiv, Cmp.partial_equiv_from_equiv, Hash.items_Alike, Hash.same_Alike};
 ghost use Rattle.std.specs.Hash as fed;

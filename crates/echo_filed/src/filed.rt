@@ -1,3 +1,5 @@
+//! A message as it is filed in a base.
+
 use echo_addr::{Address, Items};
 use echo_text::Echo;
 use std::marker::Model;

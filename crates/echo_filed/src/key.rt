@@ -1,3 +1,5 @@
+//! The key of a message, by which duplicates are found.
+
 ghost use Rattle.std.specs.Prelude.{◌≡◌, List, Option, IfOk};
 ghost use Rattle.echo_addr.specs.declared.address.{Address.Address as Sender, NetNode.NetNode};
 ghost use Rattle.echo_filed.specs.{declared.key.Key.TheVariants.ByContent, declared.key.Key.TheVariants.ById, Filed.key_of};

@@ -1,3 +1,5 @@
+//! The checksum by which JAM finds names and ids.
+
 ghost use Rattle.std.specs.{Prelude.◌≡◌, Prelude.◌^◌, Char.to_ascii_lowercase};
 ghost use Rattle.echo_jam.specs.Crc.{crc_bit, crc_byte, jam_crc};
 

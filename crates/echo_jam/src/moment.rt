@@ -1,3 +1,5 @@
+//! Moments of messages in seconds, as JAM writes them.
+
 ghost use Rattle.std.specs.Prelude.{◌≡◌, ◌≤◌, ◌+◌, true};
 ghost use Rattle.echo_jam.specs.Moment as moments;
 ghost use Rattle.echo_jam.specs.Moment.{days_at, days_before, early_month, is_laid_out, is_pair, late_month, month_of, pair, time_of, year_of, day_of};

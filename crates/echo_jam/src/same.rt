@@ -1,3 +1,5 @@
+//! Whether a message of a JAM base is one that was exported before.
+
 ghost use Rattle.std.specs.Prelude.{◌≡◌, ◌==◌, ◌+◌, ◌&&◌, ◌≤◌, IfOk, bytes_eq, length};
 ghost use Rattle.echo_jam.specs.Moment as moments;
 ghost use Rattle.echo_jam.specs.Same.{fields_at, is_same, written_at};

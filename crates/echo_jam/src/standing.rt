@@ -1,3 +1,5 @@
+//! What stands in the files of a JAM base, and where a next message goes.
+
 ghost use Rattle.std.specs.Prelude.{◌≡◌, ◌+◌, ◌*◌, ◌/◌, ◌≤◌, ◌<◌, ◌^◌, IsTrue, length};
 ghost use Rattle.echo_filed.specs.Stored as numbers;
 ghost use Rattle.echo_packet.specs.Header as words;

@@ -1,3 +1,5 @@
+//! The faults of a link file, L1 to L9.
+
 ghost use Rattle.std.specs.Prelude.{◌≡◌};
 ghost use Rattle.echo_links.specs.declared.fault.LinkFault.TheVariants as link;
 

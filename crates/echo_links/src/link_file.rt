@@ -1,3 +1,5 @@
+//! The link file of a system: its address, its name, and the links of each area.
+
 ghost use Rattle.std.specs.Prelude.{◌≡◌, ◌⊎◌, length, slice_get, option_copied, option_map, unwrap_or, codes, Result, Err, IfOk};
 ghost use Rattle.echo_links.specs.{declared.fault.LinkFault.LinkFault, LinkLines.LinksOf, Links.IsFile, Links.area_of, Links.has_area, Links.is_link};
 ghost use Rattle.echo_links.specs.declared.fault.LinkFault.TheVariants as link;

@@ -1,43 +1,26 @@
-ghost use Rattle.std.specs.Prelude.{◌≡◌, ◌++◌, ◌+◌, ◌≤◌, drop, false, length, IfOk, OnOk};
-ghost use Rattle.echo_mail.specs.Ends.{end_or_byte, returned};
+//! The ends of lines.
 
 use std::alloc::{AllocError, Global};
 
 /// The bytes with 0D instead of each CRLF and each 0A.
-pub(crate) fn returned(alloc: Global, bytes: &[u8]) -> Result<Vec<u8>, AllocError>
-    ensures { IfOk result (λ text. text.items ≡ returned false bytes.now) }
-{
+pub(crate) fn returned(alloc: Global, bytes: &[u8]) -> Result<Vec<u8>, AllocError> {
     let mut text = Vec::new(alloc);
-    let mut after = false;
-    let mut rest = bytes;
-    'bytes: while !rest.is_empty() {
-        let byte = rest[0];
-        push_end_or_byte(&mut text, after, byte)?;
-        after = byte == b'\r';
-        rest = &rest[1..];
+    let mut before = 0;
+    for byte in bytes {
+        if *byte != b'\n' {
+            text.push(*byte)?;
+        } else if before != b'\r' {
+            text.push(b'\r')?;
+        }
+        before = *byte;
     }
     Ok(text)
 }
 
-fn push_end_or_byte(text: &mut Vec<u8>, after: bool, byte: u8) -> Result<(), AllocError>
-    ensures { OnOk result (text.new.items ≡ text.old.items ++ end_or_byte after byte) }
-{
-    if byte != b'\n' {
-        text.extend_from_slice(&[byte])
-    } else if after {
-        Ok(())
-    } else {
-        text.extend_from_slice(b"\r")
-    }
-}
-
-pub(crate) fn behind(bytes: &[u8], at: usize) -> &[u8]
-    requires { at ≤ length bytes.now }
-    ensures { result.now ≡ drop (at + 1) bytes.now }
-{
-    if at < bytes.len() {
-        &bytes[at + 1..]
-    } else {
-        &bytes[at..]
+/// The bytes before the first such byte, and those behind it.
+pub(crate) fn cut(byte: u8, bytes: &[u8]) -> (&[u8], &[u8]) {
+    match bytes.iter().position(|b| *b == byte) {
+        Some(at) => (&bytes[..at], &bytes[at + 1..]),
+        None => (bytes, b""),
     }
 }

@@ -1,3 +1,5 @@
+//! The faults of a mail.
+
 ghost use Rattle.std.specs.Prelude.{◌≡◌};
 ghost use Rattle.echo_mail.specs.declared.fault.MailFault.TheVariants.{Memory};
 

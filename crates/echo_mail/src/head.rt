@@ -1,9 +1,5 @@
-//! The header fields of a mail.
-ghost use Rattle.std.specs.{Prelude.{◌≡◌, ◌≤◌, length, map, take_while, true, IfOk}, List.list_all};
-ghost use Rattle.echo_text.specs.Lines.{lines};
-ghost use Rattle.echo_mail.specs.Head.{field_of, head_len, is_field, is_folded, is_name_byte, name_len, unfolded};
-
-use crate::ends::behind;
+//! The header fields of a mail (RFC 5322).
+use crate::ends::cut;
 use echo_addr::{Items, is_blank};
 use echo_text::{split_line, trimmed};
 use std::alloc::{AllocError, Global};
@@ -15,102 +11,59 @@ pub struct Field {
     pub value: Items<u8>,
 }
 
-pub(crate) fn head_len(text: &[u8]) -> usize
-    ensures exact { result ≡ head_len true text.now }
-    ensures within { result ≤ length text.now }
-{
-    let mut count = 0;
+/// The header and the body: the bytes before the first empty line, and those behind it.
+pub(crate) fn head_and_body(text: &[u8]) -> (&[u8], &[u8]) {
     let mut first = true;
-    let mut rest = text;
-    'head: while !rest.is_empty() {
-        let returned = rest[0] == b'\r';
+    for i in 0..text.len() {
+        let returned = text[i] == b'\r';
         if returned && first {
-            return count;
+            return (&text[..i], &text[i + 1..]);
         }
-        count += 1;
         first = returned;
-        rest = &rest[1..];
     }
-    count
+    (text, b"")
 }
 
-/// The header with each field on one line: a line end before a blank is removed (RFC 5322, 2.2.3).
-pub(crate) fn unfolded(alloc: Global, head: &[u8]) -> Result<Vec<u8>, AllocError>
-    ensures { IfOk result (λ text. text.items ≡ unfolded head.now) }
-{
+/// The header with each field on one line: a line end before a blank is removed (2.2.3).
+pub(crate) fn unfolded(alloc: Global, head: &[u8]) -> Result<Vec<u8>, AllocError> {
     let mut text = Vec::new(alloc);
-    let mut rest = head;
-    'head: while !rest.is_empty() {
-        let byte = rest[0];
-        rest = &rest[1..];
-        if !is_folded(byte, rest) {
-            text.push(byte)?;
+    for i in 0..head.len() {
+        if head[i] != b'\r' || !begins_blank(&head[i + 1..]) {
+            text.push(head[i])?;
         }
     }
     Ok(text)
 }
 
-fn is_folded(byte: u8, rest: &[u8]) -> bool
-    ensures { result ≡ is_folded byte rest.now }
-{
-    byte == b'\r' && !rest.is_empty() && is_blank(rest[0])
-}
-
-pub(crate) fn are_fields(text: &[u8]) -> bool
-    ensures { result ≡ list_all is_field (lines text.now) }
-{
-    let mut rest = text;
-    'lines: while !rest.is_empty() {
-        let (line, after) = split_line(rest);
-        if !is_field(line) {
-            return false;
-        }
-        rest = after;
+fn begins_blank(bytes: &[u8]) -> bool {
+    match bytes.first() {
+        Some(byte) => is_blank(*byte),
+        None => false,
     }
-    true
 }
 
-pub(crate) fn fields_of(alloc: Global, text: &[u8]) -> Result<Vec<Field>, AllocError>
-    ensures { IfOk result (λ fields. fields.items ≡ map field_of (lines text.now)) }
-{
+/// The fields of an unfolded header, or `None` if a line of it is no field.
+pub(crate) fn fields_of(alloc: Global, text: &[u8]) -> Result<Option<Vec<Field>>, AllocError> {
     let mut fields = Vec::new(alloc);
     let mut rest = text;
     'lines: while !rest.is_empty() {
         let (line, after) = split_line(rest);
-        fields.push(field_of(alloc, line)?)?;
+        let (name, value) = cut(b':', line);
+        if !is_name(name) || name.len() == line.len() {
+            return Ok(None);
+        }
+        fields.push(new_field(alloc, name, trimmed(value))?)?;
         rest = after;
     }
-    Ok(fields)
+    Ok(Some(fields))
 }
 
-fn is_field(line: &[u8]) -> bool
-    ensures { result ≡ is_field line.now }
-{
-    let end = name_len(line);
-    0 < end && end < line.len() && line[end] == b':'
+fn new_field(alloc: Global, name: &[u8], value: &[u8]) -> Result<Field, AllocError> {
+    let name = Items::new(Vec::from_slice(alloc, name)?);
+    let value = Items::new(Vec::from_slice(alloc, value)?);
+    Ok(Field { name, value })
 }
 
-fn field_of(alloc: Global, line: &[u8]) -> Result<Field, AllocError>
-    ensures { IfOk result (λ field. field ≡ field_of line.now) }
-{
-    let end = name_len(line);
-    let name = Vec::from_slice(alloc, &line[..end])?;
-    let value = Vec::from_slice(alloc, trimmed(behind(line, end)))?;
-    Ok(Field {
-        name: Items::new(name),
-        value: Items::new(value),
-    })
-}
-
-fn name_len(line: &[u8]) -> usize
-    ensures exact { result ≡ name_len line.now }
-    ensures within { result ≤ length line.now }
-{
-    line.iter().take_while(|b| is_name_byte(**b)).count()
-}
-
-fn is_name_byte(byte: u8) -> bool
-    ensures { result ≡ is_name_byte byte }
-{
-    33 <= byte && byte <= 126 && byte != b':'
+fn is_name(name: &[u8]) -> bool {
+    !name.is_empty() && name.iter().all(|b| b.is_ascii_graphic())
 }

@@ -1,5 +1,5 @@
-//! Mail messages (RFC 5322), read for posting. `read_mail` and `body_text` answer what the definitions in specs/ give
-//! for the bytes, or the fault that applies. Begin with `mail` (a parsed mail) and `body` (its text).
+//! Mail messages (RFC 5322), read for posting. Each function is safe and ends; that it reads what the standards say is
+//! tested (mails.cases). Begin with `mail` (a parsed mail) and `body` (its text).
 #![tactic(auto)]
 
 mod area;
@@ -22,4 +22,4 @@ pub use fault::MailFault;
 pub use head::Field;
 pub use mail::{Mail, read_mail};
 pub use mailbox::person_name;
-pub use msgid::{exported_id, written_ids_turned_back};
+pub use msgid::exported_id;

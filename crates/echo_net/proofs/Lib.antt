@@ -1,6 +1,10 @@
-pub mod Orders
-pub mod Collected
-pub mod Owned
-pub mod Twins
-pub mod Drawings
-pub mod AllFaults
+pub mod Changes
+pub mod Exports
+pub mod Readings
+pub mod Runs
+pub mod Taken
+pub mod Deliveries
+pub mod Numbers
+pub mod Scripts
+pub mod Words
+mod Counted

@@ -1,9 +1,4 @@
-pub mod Nets
-pub mod Firsts
-pub mod Pairs
-pub mod Rows
-pub mod Faults
-pub mod Absent
-pub mod Printed
-pub mod Drawn
-pub mod AllFaults
+pub mod Worlds
+pub mod Taken
+pub mod Script
+pub mod Counts

@@ -1,39 +1,21 @@
-//! Checks an area of a net of systems that exchange echomail (FTS-0004): is it in order?
-//!
-//! Promise: `check` answers yes exactly where the area is tidy; then each new message of it is in order, from any state
-//! on. A no names the first fault. `all_faults` lists every fault. `listed` answers just the carriers that
-//! a nodelist does not hold.
-//!
-//! Begin with `checker` (the whole) and `verdict` (the answer and the faults). `area` has the systems and links
-//! of an area, by `area_lists`, `link` and `searching`. `owners`, `first_links` and `same_net_node` decide by
-//! sorted addresses, `link_faults` takes the first of their faults, `each_fault` all of them. `rows` and
-//! `graph_faults` check the net as a graph. `presence` compares carriers with a nodelist, `drawing` draws an area.
+//! What becomes of a net: whether an area is in order (`check`, of echo_verdict), and a trial of events (FTS-0004).
+//! `replay` runs them over the bytes of real packets and returns the world of the run of these events on these files, so
+//! the laws of runs hold for it. Begin with `world` and `replaying`.
 #![tactic(auto)]
 
-mod area;
-mod area_lists;
-mod checker;
-mod drawing;
-mod each_fault;
-mod first_links;
-mod graph_faults;
-mod link;
-mod link_faults;
-mod owners;
-mod presence;
-mod rows;
-mod same_net_node;
-mod searching;
-mod verdict;
+mod happening;
+mod laws;
+mod receivers;
+mod replay_progress;
+mod replaying;
+mod script;
+mod world;
 
-pub use area_lists::{carriers, links, systems};
-pub use checker::{check, check_area, shared_system};
-pub use drawing::{
-    Crossing, Drawing, DrawnLink, DrawnSystem, Mark, Sides, back, draw, has_address, has_link,
-};
-pub use each_fault::{all_faults, further};
-pub use link::Link;
-pub use presence::{Absence, listed};
-pub use rows::outgoing_links;
-pub use searching::place;
-pub use verdict::{NetFault, Verdict};
+pub use echo_verdict::{Absence, NetFault, Verdict, check, listed};
+pub use laws::replay_laws;
+pub use model_run::Event;
+pub use receivers::Receivers;
+pub use replay_progress::{ReplayProgress, Unreported};
+pub use replaying::{replay, replay_counted, replay_reported, replay_with};
+pub use script::{ScriptFault, read_script};
+pub use world::World;

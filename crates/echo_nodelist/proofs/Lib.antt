@@ -6,7 +6,9 @@ pub mod LookingBack
 pub mod Hubs
 pub mod StatedNumber
 pub mod Entries
+pub mod LineBytes
 pub mod OneMoreLine
 pub mod Clean
+pub mod ReadBack
 pub mod OneNodelist
 mod Examples

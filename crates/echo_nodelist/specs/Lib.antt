@@ -5,5 +5,6 @@ pub mod CrcLine
 pub mod Line
 pub mod Back
 pub mod Nodelist
+pub mod Written
 pub mod Place
 pub mod Reading

@@ -1,3 +1,5 @@
+//! The checksum of a nodelist (FTS-5000).
+
 ghost use Rattle.std.specs.Prelude.{◌≡◌, ℕ, suc, List, [], ◌∷◌, ◌++◌};
 ghost use Rattle.echo_nodelist.specs.{Crc.crc, Tables.AreTables, Tables.IsTable};
 

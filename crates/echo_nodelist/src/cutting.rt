@@ -1,3 +1,5 @@
+//! The lines of a nodelist, cut at their ends.
+
 ghost use Rattle.std.specs.{Prelude.◌≡◌, Prelude.◌+◌, Prelude.◌<◌, Prelude.◌≤◌, Prelude.◌==◌, Prelude.◌∷◌, Prelude.length, Prelude.IfSome, Prelude.IsNone, List.after_first, List.before_first, List.position_or_len, Io.BufRead.strip_last};
 ghost use Rattle.echo_nodelist.specs.Raw.{lines_of, before_end};
 

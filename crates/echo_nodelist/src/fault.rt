@@ -1,3 +1,5 @@
+//! The faults of a nodelist.
+
 ghost use Rattle.std.specs.Prelude.{◌≡◌};
 ghost use Rattle.echo_nodelist.specs.declared.fault.NodeFault.TheVariants.{Memory};
 
@@ -5,8 +7,8 @@ use std::alloc::{AllocError, AllocFailed};
 use std::fmt;
 use thiserror::Error;
 
-/// Why a nodelist was not read. `line` is the number of the first faulty line, counted from 1. If it has several
-/// faults, the first in this order is reported.
+/// Why a nodelist was not read or written. `line` is the number of the first faulty line, counted from 1. If it has
+/// several faults, the first in this order is reported. `bytes` counts the bytes that were sent.
 #[derive(Clone, Copy, Debug, PartialEq, Eq, Error)]
 pub enum NodeFault {
     /// An entry of fewer than seven fields.
@@ -24,6 +26,9 @@ pub enum NodeFault {
     /// A growth was refused.
     #[error("N5 Memory")]
     Memory,
+    /// The writer failed.
+    #[error("N6 Write bytes {bytes}")]
+    Write { bytes: u64 },
 }
 
 impl From<AllocError> for NodeFault {

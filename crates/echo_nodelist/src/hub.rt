@@ -1,3 +1,5 @@
+//! The hub over a line of a nodelist.
+
 ghost use Rattle.std.specs.Prelude.{◌≡◌, ◌≤◌, length, take, reverse};
 ghost use Rattle.echo_nodelist.specs.Back.{address_back, each_back, hub_at, is_below_hub, nearest_hub};
 

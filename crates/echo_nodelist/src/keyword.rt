@@ -1,3 +1,5 @@
+//! The keywords of a nodelist's lines (FTS-5000).
+
 ghost use Rattle.std.specs.Prelude.{◌≡◌};
 ghost use Rattle.echo_nodelist.specs.Line.{begins_net, is_hub, is_zone, keyword_of, keyword_text};
 

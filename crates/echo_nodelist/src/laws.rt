@@ -1,7 +1,13 @@
 //! Laws about the definitions. Each law is the contract of a function that does nothing.
 
 ghost use Rattle.std.specs.Prelude.{◌≡◌, ℕ, List};
-ghost use Rattle.echo_nodelist.specs.{declared.fault.NodeFault.NodeFault, declared.line.Line.Line, Nodelist.NodelistFaultOf, Nodelist.IsNodelist, Nodelist.NodelistOf};
+ghost use Rattle.echo_nodelist.specs.{declared.fault.NodeFault.NodeFault, declared.line.Line.Line, Nodelist.NodelistFaultOf, Nodelist.IsNodelist, Nodelist.NodelistOf, Written.nodelist_text};
+
+/// The written bytes of a nodelist are that nodelist.
+#[tactic(auto, using(crate::proofs::ReadBack::written_again))]
+pub fn written_nodelist_read_back()
+    ensures { (lines : List Line) → IsNodelist lines → NodelistOf (nodelist_text lines) lines }
+{}
 
 /// Bytes are one nodelist at most, have one first fault at most, and never both. The nodelist keeps the rules.
 pub fn one_nodelist()

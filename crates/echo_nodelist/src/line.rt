@@ -1,3 +1,5 @@
+//! One line of a nodelist.
+
 ghost use Rattle.std.specs.{Prelude.◌≡◌, Prelude.IfOk, List.slice_split};
 ghost use Rattle.echo_nodelist.specs.{Raw.is_comma, Line.entry_in, Line.is_note, Line.line_in, Line.number_of, Nodelist.Gives};
 

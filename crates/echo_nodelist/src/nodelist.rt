@@ -1,3 +1,5 @@
+//! A nodelist in memory.
+
 ghost use Rattle.std.specs.Prelude.{◌≡◌, ◌≢◌, ◌↔◌, ◌<◌, ℕ, Some, None, IsTrue, MatchOption, slice_index_or};
 
 use crate::cutting::before_end;
@@ -5,6 +7,8 @@ use crate::fault::NodeFault;
 use crate::hub::hub_at;
 use crate::line::Line;
 use crate::reading::read_lines;
+use crate::writing::nodelist_text;
+use disk_io::{Failure, Sink, send};
 use echo_addr::Address;
 use std::alloc::Global;
 use std::marker::Model;
@@ -29,7 +33,7 @@ impl Model for Nodelist {
 
 impl Nodelist {
     ghost use Rattle.std.specs.Prelude.{◌≡◌};
-    ghost use Rattle.echo_nodelist.specs.{Back.Finds, Back.address_at, Back.hub_at, Nodelist.NodelistAnswered, Nodelist.IsNodelist};
+    ghost use Rattle.echo_nodelist.specs.{Back.Finds, Back.address_at, Back.hub_at, Nodelist.NodelistAnswered, Nodelist.IsNodelist, Written.WritesOut, Written.nodelist_text};
 
     /// The nodelist in the bytes up to the first 1A, the fault of the first faulty line, or `Memory`.
     pub fn read(alloc: Global, bytes: &[u8]) -> Result<Nodelist, NodeFault>
@@ -42,6 +46,19 @@ impl Nodelist {
         })
     }
 
+    /// Writes each line with 0D 0A, then 1A, and does not flush. Faults: `Write` with the number of bytes that were
+    /// sent, or `Memory` before any was sent.
+    pub fn write<W: Sink>(&self, alloc: Global, writer: &mut W) -> Result<(), NodeFault>
+        ensures { WritesOut (W.contents writer.old) (W.contents writer.new) (W.failures writer.old) (W.failures writer.new) (nodelist_text self.now) result }
+    {
+        let text = nodelist_text(alloc, &self.lines)?;
+        let mut sent = 0;
+        match send(writer, &text, &mut sent) {
+            Ok(()) => Ok(()),
+            Err(Failure) => Err(NodeFault::Write { bytes: sent }),
+        }
+    }
+
     /// The lines in order.
     pub fn lines(&self) -> &[Line]
         ensures lines { result.now ≡ self.now }
@@ -51,7 +68,7 @@ impl Nodelist {
     }
 
     /// The address of the line at an index, from 0; none for a Note, and past the last line.
-    pub fn line_address(&self, i: usize) -> Option<Address>
+    pub fn address_of(&self, i: usize) -> Option<Address>
         ensures { result ≡ address_at self.now i }
     {
         kept_at(&self.addresses, i)
@@ -59,7 +76,7 @@ impl Nodelist {
 
     /// The address of the Hub over the line at an index, from 0. Only entries Pvt, Hold, Down or without keyword have
     /// one: the nearest Hub line before them in their net. The search goes back to the start of the net.
-    pub fn line_hub(&self, i: usize) -> Option<Address>
+    pub fn hub_of(&self, i: usize) -> Option<Address>
         ensures { result ≡ hub_at self.now i }
     {
         hub_at(&self.lines, &self.addresses, i)

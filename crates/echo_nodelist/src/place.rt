@@ -1,3 +1,5 @@
+//! The address of each line, by the lines before it.
+
 ghost use Rattle.std.specs.Prelude.{◌≡◌, ℕ, List, ◌∷◌, Some};
 ghost use Rattle.echo_nodelist.specs.{declared.line.Line.Line, declared.line.Line.TheVariants.Entry, Back.address_back, Place.IsPlaceAfter, Place.Locates};
 

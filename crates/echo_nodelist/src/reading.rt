@@ -1,3 +1,5 @@
+//! The lines of a nodelist, read with their addresses.
+
 ghost use Rattle.std.specs.Prelude.{◌≡◌, ◌+◌, ◌⊎◌, [], ◌∷◌, ◌++◌, reverse, OnOk, IfErr, Ok, Err};
 ghost use Rattle.echo_nodelist.specs.{declared.fault.NodeFault.TheVariants.Memory, Raw.lines_of, Nodelist.placed, Reading.IsInStep, Reading.ReadsLines};
 

@@ -1,3 +1,5 @@
+//! The checksum that the first line of a nodelist states.
+
 ghost use Rattle.std.specs.{Prelude.◌≡◌, Prelude.◌≤◌, Prelude.◌↔◌, Prelude.false, Prelude.length, Prelude.IsNone, Prelude.IfSome, List.after_first, List.before_first, List.suffix_len};
 ghost use Rattle.echo_nodelist.specs.{CrcLine.crc_line_of, CrcLine.is_space, CrcLine.states_crc, CrcLine.stated_crc, CrcLine.without_back_spaces, Raw.is_feed};
 

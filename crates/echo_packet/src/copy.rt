@@ -1,3 +1,5 @@
+//! A message that copies share, each with its own destination.
+
 ghost use Rattle.std.specs.Prelude.{◌≡◌, IfOk};
 ghost use Rattle.echo_packet.specs.Message.{readdressed};
 

@@ -1,3 +1,5 @@
+//! The faults of packets, P1 to P10.
+
 use std::alloc::{AllocError, AllocFailed};
 use thiserror::Error;
 
@@ -68,22 +70,5 @@ impl<T: Drop> From<AllocFailed<T>> for PacketFault {
 
     fn from(_failed: AllocFailed<T>) -> PacketFault {
         PacketFault::Memory
-    }
-}
-
-/// A call that took a device by value answered this fault, and returns the device as the call left it.
-#[derive(Drop)]
-pub struct Unfinished<D> {
-    pub fault: PacketFault,
-    pub device: D,
-}
-
-impl<D: Drop> From<Unfinished<D>> for PacketFault {
-    ghost use Rattle.std.specs.Prelude.{◌≡◌};
-
-    ghost from_gives = { λ unfinished e. e ≡ unfinished.fault };
-
-    fn from(unfinished: Unfinished<D>) -> PacketFault {
-        unfinished.fault
     }
 }

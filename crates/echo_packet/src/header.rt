@@ -1,3 +1,5 @@
+//! The header of a packet (FTS-0001).
+
 ghost use Rattle.std.specs.Prelude.{◌≡◌, ◌+◌, ◌≤◌, length};
 ghost use Rattle.echo_packet.specs.Header.{header_of, number_at};
 

@@ -18,7 +18,7 @@ mod sending;
 mod writer;
 
 pub use copy::PackedCopy;
-pub use fault::{Field, PacketFault, Unfinished};
+pub use fault::{Field, PacketFault};
 pub use header::{HEADER_BYTES, Header};
 pub use laws::{header_laws, one_answer, one_next_fault, whole_runs, written_packet_reads_back};
 pub use limits::{Limits, MAX_NAME, MAX_SUBJECT, no_limits};

@@ -1,3 +1,5 @@
+//! The limits of a reader of packets.
+
 ghost use Rattle.std.specs.Prelude.{◌≡◌};
 
 /// How many bytes a name may have before its 00 (FTS-0001).

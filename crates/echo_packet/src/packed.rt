@@ -1,3 +1,5 @@
+//! A packed message (FTS-0001).
+
 ghost use Rattle.std.specs.Prelude.{◌≡◌, ◌≤◌, ◌↔◌, length, IsTrue, IfOk, IfErr, IfSome, IsNone, Err, Some};
 ghost use Rattle.echo_packet.specs.Message.{HasNoZero, Message, IsMessage, IsString, AreStrings, IsFirstBad, max_name, max_subject};
 ghost use Rattle.echo_packet.specs.{Parts.message_with, declared.fault.Field.Field, declared.fault.PacketFault.TheVariants.BadField};

@@ -1,3 +1,5 @@
+//! Reads the messages of a packet one by one from a source.
+
 ghost use Rattle.std.specs.Prelude.{◌≤◌};
 
 mod calls;

@@ -1,3 +1,5 @@
+//! A whole packet, read from bytes.
+
 ghost use Rattle.std.specs.Prelude.{◌≡◌, ◌⊎◌, Err};
 ghost use Rattle.echo_packet.specs.{Answer.Answer, Answer.AnswersAsDescribed, Answer.Describes, Answer.answered, declared.fault.PacketFault.TheVariants.Memory};
 

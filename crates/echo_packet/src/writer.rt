@@ -1,3 +1,5 @@
+//! Writes the messages of a packet one by one to a sink.
+
 ghost use Rattle.std.specs.Prelude.{◌≡◌, ◌+◌, true, false, length, IfOk, IfErr, OnOk, OnErr, Err};
 ghost use Rattle.std.specs.Io.KnownBytes.{Appends};
 ghost use Rattle.disk_io.specs.Device.{Failed, Sends};
@@ -5,7 +7,7 @@ ghost use Rattle.echo_packet.specs.{declared.fault.PacketFault.TheVariants.Stopp
 ghost use Rattle.echo_packet.specs.{Message.IsMessage, Message.message_bytes, Message.readdressed, Writer.IsCutOff, Writer.bytes_sent, Writer.has_stopped, Writer.writer_below};
 
 use crate::copy::PackedCopy;
-use crate::fault::{PacketFault, Unfinished};
+use crate::fault::PacketFault;
 use crate::header::Header;
 use crate::packed::Packed;
 use crate::sending::{send_header, send_message, send_terminator};
@@ -20,8 +22,8 @@ pub struct PacketWriter<W> {
 }
 
 impl<W: Sink + Drop> PacketWriter<W> {
-    /// Writes the header. The fault `Write` has the number of bytes sent; the writer is given back.
-    pub fn begin(writer: W, header: &Header) -> Result<PacketWriter<W>, Unfinished<W>>
+    /// Writes the header. The fault `Write` has the number of bytes sent; the writer is dropped.
+    pub fn begin(writer: W, header: &Header) -> Result<PacketWriter<W>, PacketFault>
         ensures bytes { IfOk result (λ packet. Appends (W.contents writer) (W.contents (writer_below packet)) (header_bytes header.now)) }
         ensures count { IfOk result (λ packet. bytes_sent packet ≡ 58) }
         ensures ready { IfOk result (λ packet. has_stopped packet ≡ false) }
@@ -37,10 +39,7 @@ impl<W: Sink + Drop> PacketWriter<W> {
                 sent,
                 stopped: false,
             }),
-            Err(Failure) => Err(Unfinished {
-                fault: PacketFault::Write { bytes: sent },
-                device: writer,
-            }),
+            Err(Failure) => Err(PacketFault::Write { bytes: sent }),
         }
     }
 
@@ -106,28 +105,22 @@ impl<W: Sink + Drop> PacketWriter<W> {
         }
     }
 
-    /// Writes the terminator 00 00 and returns the writer, not flushed, with a fault too. After an error nothing is
-    /// sent.
-    pub fn finish(self) -> Result<W, Unfinished<W>>
+    /// Writes the terminator 00 00 and returns the writer, not flushed. Faults, at which the writer is dropped: `Write`
+    /// with the number of bytes sent since `begin`; `Stopped` after an earlier error, and nothing is sent.
+    pub fn finish(self) -> Result<W, PacketFault>
         ensures bytes { IfOk result (λ writer. Appends (W.contents (writer_below self)) (W.contents writer) (word 0)) }
         ensures same { IfOk result (λ writer. W.failures writer ≡ W.failures (writer_below self)) }
         ensures fault { has_stopped self ≡ false → IfErr result (IsCutOff W.contents W.failures (writer_below self) (word 0) (bytes_sent self)) }
-        ensures stopped { has_stopped self ≡ true → result ≡ Err (record { fault = Stopped; device = writer_below self }) }
+        ensures stopped { has_stopped self ≡ true → result ≡ Err Stopped }
     {
         if self.stopped {
-            return Err(Unfinished {
-                fault: PacketFault::Stopped,
-                device: self.writer,
-            });
+            return Err(PacketFault::Stopped);
         }
         let mut writer = self.writer;
         let mut sent = self.sent;
         match send_terminator(&mut writer, &mut sent) {
             Ok(()) => Ok(writer),
-            Err(Failure) => Err(Unfinished {
-                fault: PacketFault::Write { bytes: sent },
-                device: writer,
-            }),
+            Err(Failure) => Err(PacketFault::Write { bytes: sent }),
         }
     }
 }

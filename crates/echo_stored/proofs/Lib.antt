@@ -1,4 +1,2 @@
 pub mod Joins
 pub mod Parsed
-pub mod Behind
-pub mod ReadBack

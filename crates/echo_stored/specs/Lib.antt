@@ -1,3 +1,2 @@
 pub mod OriginAddress
-pub mod StoredMessage
 pub mod StoredReading

@@ -1,3 +1,5 @@
+//! The address in an origin line (FTS-0004).
+
 ghost use Rattle.std.specs.{Prelude.{◌≡◌, ◌≤◌, ◌==◌, not, length, reverse, take_while}, Result.result_ok};
 ghost use Rattle.echo_addr.specs.Address.{outcome};
 ghost use Rattle.echo_stored.specs.OriginAddress.{address_word, behind_bracket, is_address_byte, origin_address};

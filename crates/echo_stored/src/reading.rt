@@ -1,8 +1,8 @@
 //! A stored message that an editor wrote, read for posting.
-ghost use Rattle.std.specs.Prelude.{◌≡◌, ◌==◌, ◌||◌, ◌≤◌, ◌++◌, true, not, drop, length, option_copied, take_while, IsTrue, IfOk, OnOk};
+ghost use Rattle.std.specs.Prelude.{◌≡◌, ◌||◌, ◌≤◌, ◌++◌, true, drop, length, option_copied, IsTrue, IfOk, OnOk};
 ghost use Rattle.echo_text.specs.Lines.{after_feeds, begins, is_control, is_origin, is_path, is_seen, lines, msgid_word, reply_word};
 ghost use Rattle.echo_text.specs.Echo.{first_after, id_in};
-ghost use Rattle.echo_stored.specs.StoredReading.{ReadAnswers, body_of, field_at, is_local, is_made, is_sent, is_to_post, own_line, reply_in, text_in, until_zero};
+ghost use Rattle.echo_stored.specs.StoredReading.{ReadAnswers, body_of, is_local, is_made, is_sent, is_to_post, own_line};
 ghost use Rattle.echo_stored.specs.declared.reading.StoredFault.TheVariants.{Memory};
 
 use echo_addr::Items;
@@ -45,13 +45,13 @@ pub fn read_stored<'a>(alloc: Global, bytes: &'a [u8]) -> Result<StoredDraft<'a>
     if !is_to_post(bytes) {
         return Err(StoredFault::BadMessage);
     }
-    let text = text_in(bytes);
+    let text = until_zero(&bytes[190..]);
     let body = Items::new(extract_body(alloc, text)?);
     Ok(StoredDraft {
         from_name: field_at(bytes, 0, 36),
         to_name: field_at(bytes, 36, 36),
         subject: field_at(bytes, 72, 72),
-        reply: reply_in(text),
+        reply: first_value(b"\x01REPLY:", text).unwrap_or(b""),
         body,
     })
 }
@@ -79,36 +79,15 @@ fn field_at(bytes: &[u8], place: usize, size: usize) -> &[u8]
     requires long { 190 ≤ length bytes.now }
     requires place { place ≤ 72 }
     requires size { size ≤ 72 }
-    ensures { result.now ≡ field_at place size bytes.now }
 {
     until_zero(&bytes[place..place + size])
 }
 
-fn text_in(bytes: &[u8]) -> &[u8]
-    requires { 190 ≤ length bytes.now }
-    ensures { result.now ≡ text_in bytes.now }
-{
-    until_zero(behind_numbers(bytes))
-}
-
-fn behind_numbers(bytes: &[u8]) -> &[u8]
-    requires { 190 ≤ length bytes.now }
-    ensures { result.now ≡ drop 190 bytes.now }
-{
-    &bytes[190..]
-}
-
-fn until_zero(bytes: &[u8]) -> &[u8]
-    ensures { result.now ≡ until_zero bytes.now }
-{
-    &bytes[..filled_len(bytes)]
-}
-
-fn filled_len(bytes: &[u8]) -> usize
-    ensures exact { result ≡ length (take_while (λ b. not (b == 0)) bytes.now) }
-    ensures within { result ≤ length bytes.now }
-{
-    bytes.iter().take_while(|b| **b != 0).count()
+fn until_zero(bytes: &[u8]) -> &[u8] {
+    match bytes.iter().position(|b| *b == 0) {
+        Some(end) => &bytes[..end],
+        None => bytes,
+    }
 }
 
 /// The lines of the text, except those that posting or a scan makes. Each ends in 0D.
@@ -174,15 +153,6 @@ pub fn is_seen(line: &[u8]) -> bool
     ensures { result ≡ is_seen line.now }
 {
     begins(b"SEEN-BY:", line)
-}
-
-fn reply_in(text: &[u8]) -> &[u8]
-    ensures { result.now ≡ reply_in text.now }
-{
-    match first_value(b"\x01REPLY:", text) {
-        Some(id) => id,
-        None => &[],
-    }
 }
 
 /// The value of the first line that begins with the word and has more than blanks behind it.

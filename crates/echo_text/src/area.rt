@@ -1,3 +1,5 @@
+//! Tags of areas, and the AREA line (FTS-0004).
+
 ghost use Rattle.std.specs.Prelude.{◌≡◌, Some, None, map, IfOk, MatchResult};
 ghost use Rattle.std.specs.{Char.to_ascii_uppercase, List.list_all};
 ghost use Rattle.echo_text.specs.{Lines.area_tag, Lines.is_tag, Lines.is_tag_byte, Refusal.refusal_of};

@@ -1,8 +1,10 @@
+//! An echomail text by its parts, owned or as a view.
+
 use crate::found::{first_id, last_tear, last_with};
 use crate::kept::{KeptView, Lines};
 use crate::words::{MSGID, ORIGIN, REPLY};
 use echo_addr::{Items, NetNode};
-use std::alloc::Global;
+use std::alloc::{AllocError, Global};
 use std::marker::Model;
 
 /// A parsed echomail text (FTS-0004). The tag has 1 to 60 bytes from `!` to `~` without small letters. No kept line
@@ -136,8 +138,24 @@ impl<'a> FrontView<'a> {
 }
 
 impl<'a> EchoView<'a> {
-    ghost use Rattle.std.specs.Prelude.{◌≡◌, option_copied};
+    ghost use Rattle.std.specs.Prelude.{◌≡◌, IfOk, option_copied};
     ghost use Rattle.echo_text.specs.Echo.{msgid_of};
+
+    /// An echo of the same parts, with a copy of each.
+    pub fn to_echo(&self, alloc: Global) -> Result<Echo, AllocError>
+        ensures { IfOk result (λ echo. echo ≡ self.now) }
+    {
+        let tag = Vec::from_slice(alloc, self.tag.as_slice())?;
+        let kept = self.kept.lines_into(Vec::new(alloc))?;
+        let seen = Vec::from_slice(alloc, self.seen.as_slice())?;
+        let path = Vec::from_slice(alloc, self.path.as_slice())?;
+        Ok(Echo {
+            tag: Items::new(tag),
+            kept,
+            seen: Items::new(seen),
+            path: Items::new(path),
+        })
+    }
 
     /// The id of the message, as `Echo` has it.
     pub fn msgid(&self) -> Option<&[u8]>

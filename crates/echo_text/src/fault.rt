@@ -1,3 +1,5 @@
+//! The faults of echomail texts.
+
 ghost use Rattle.std.specs.Prelude.{◌≡◌};
 ghost use Rattle.echo_text.specs.declared.fault.TextFault.TheVariants.{Memory};
 

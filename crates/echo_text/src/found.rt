@@ -1,3 +1,5 @@
+//! The id, tear and origin among kept lines.
+
 ghost use Rattle.std.specs.Prelude.{◌≡◌, None, map, option_copied, filter};
 ghost use Rattle.std.specs.List.{last_or};
 ghost use Rattle.echo_text.specs.Echo.{first_after, id_in};

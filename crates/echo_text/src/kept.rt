@@ -1,4 +1,7 @@
+//! The lines of a text that travel unchanged.
+
 use crate::found::{first_id, last_tear, last_with};
+use crate::line_slices::LineSlices;
 use crate::lines::push_lines;
 use crate::tail::{kept_len, push_kept};
 use crate::words::{MSGID, ORIGIN, REPLY};
@@ -48,6 +51,13 @@ impl Lines {
         ensures lines { lines result.now ≡ self.now }
     {
         self.text.as_slice()
+    }
+
+    /// The lines one by one. Takes no memory.
+    pub fn iter(&self) -> LineSlices<'_>
+        ensures { result ≡ self.now }
+    {
+        LineSlices::new(self.as_text(), &[])
     }
 
     /// The text of the lines.
@@ -132,6 +142,13 @@ impl<'a> KeptView<'a> {
         ensures { result ≡ lines body.now ++ filter is_kept_control (lines tail.now) }
     {
         KeptView { body, tail }
+    }
+
+    /// The lines one by one, slices of the text. Takes no memory.
+    pub fn iter(&self) -> LineSlices<'a>
+        ensures { result ≡ self.now }
+    {
+        LineSlices::new(self.body, self.tail)
     }
 
     /// A copy of the lines in the vector, whose old content is dropped.

@@ -10,6 +10,7 @@ mod found;
 mod id_laws;
 mod kept;
 mod laws;
+mod line_slices;
 mod lines;
 mod listed;
 mod msgid;
@@ -26,6 +27,7 @@ pub use id_laws::{
 };
 pub use kept::{KeptView, Lines};
 pub use laws::{kept_as_they_stand, one_reading, one_writing, written_text_read_back};
+pub use line_slices::LineSlices;
 pub use lines::{push_line, push_lines, split_line};
 pub use msgid::{MsgId, parse_hex};
 pub use reading::{read_into_room, read_text, view_front, view_text};

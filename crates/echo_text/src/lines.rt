@@ -1,3 +1,5 @@
+//! Lines of a text, each ended by 0D (FTS-0001).
+
 ghost use Rattle.std.specs.Prelude.{◌≡◌, ◌+◌, ◌<◌, ◌≤◌, [], ◌∷◌, ◌++◌, length, take, drop, if◌then◌else◌, OnOk, OnErr};
 ghost use Rattle.std.specs.List.{flat_map};
 ghost use Rattle.echo_text.specs.{Lines.first_line, Lines.later_lines, Lines.lines, Echo.HasEndedLines, Echo.ended};

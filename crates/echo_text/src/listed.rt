@@ -1,3 +1,5 @@
+//! The entries of all SEEN-BY or PATH lines of a text.
+
 ghost use Rattle.std.specs.Prelude.{◌≡◌, ◌<◌, ◌^◌, IfOk};
 ghost use Rattle.echo_text.specs.{Lines.lines, Tail.all_dropped, Tail.all_entries, Tail.lists_of};
 

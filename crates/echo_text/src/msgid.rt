@@ -1,3 +1,5 @@
+//! Message ids (FTS-0009).
+
 ghost use Rattle.std.specs.Prelude.{◌≡◌, ◌≤◌, ◌||◌, not, true, false, length, reverse, take_while, IfOk, IsTrue, MatchOption, MatchResult};
 ghost use Rattle.std.specs.{List.list_all, Str.Parse.AllDigits, Str.Parse.digits_value};
 ghost use Rattle.echo_addr.specs.Entries.{is_blank};

@@ -1,3 +1,5 @@
+//! An echomail text, read (FTS-0004).
+
 ghost use Rattle.std.specs.{Prelude.◌≡◌, Prelude.map, Prelude.IfOk, Prelude.MatchResult, Char.to_ascii_uppercase};
 ghost use Rattle.echo_text.specs.{Echo.EchoOf, Echo.FrontOf, Echo.HasNoZero, Echo.ListsOf, Lines.later_lines, Lines.lines, Refusal.IsTextFault, Refusal.TextAnswers};
 

@@ -1,3 +1,5 @@
+//! The control lines at the end of a text.
+
 ghost use Rattle.std.specs.Prelude.{◌≡◌, ◌≤◌, ◌++◌, length, take, drop, filter, OnOk};
 ghost use Rattle.std.specs.List.{flat_map};
 ghost use Rattle.echo_text.specs.{Lines.lines, Echo.ended, Tail.body, Tail.is_kept_control, Tail.tail};

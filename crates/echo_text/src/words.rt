@@ -1,3 +1,5 @@
+//! The words with which control lines begin.
+
 ghost use Rattle.std.specs.Prelude.{◌≡◌, ◌≤◌, true, false, length, reverse, take_while, IsTrue, MatchOption};
 ghost use Rattle.echo_addr.specs.Entries.{is_blank};
 ghost use Rattle.echo_text.specs.Lines.{after_feeds, after_word, begins, is_blank_line, is_control, is_feed, is_tear, trimmed};

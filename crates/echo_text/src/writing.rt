@@ -1,3 +1,5 @@
+//! An echomail text, written (FTS-0004).
+
 ghost use Rattle.std.specs.Prelude.{IfOk, OnOk};
 ghost use Rattle.echo_text.specs.Echo.{TextOf};
 

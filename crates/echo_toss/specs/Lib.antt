@@ -1,11 +1,2 @@
-pub mod Tallies
-pub mod Refusals
-pub mod Wanted
-pub mod Bounds
-pub mod Counts
-pub mod Exports
-pub mod PacketSteps
-pub mod Messages
-pub mod Stores
-pub mod PacketsIn
-pub mod Ways
+pub mod Steps
+pub mod Loaded

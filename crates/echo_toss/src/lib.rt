@@ -1,37 +1,18 @@
-//! The tosser: what one system does to its base, in any store. `post_step`, `toss_step` and `scan_step` are the steps of
-//! model_steps; `toss_packet` makes the step of each message of a packet. They commit nothing. Begin with `tossing`.
+//! A tosser: one system with its link file and its base in memory, which posts, tosses, scans and purges (FTS-0004).
+//! Each call of `Tosser` is one step of the model on the whole system, and a refused call leaves the system unchanged.
+//! `save` and `load` are exactly the base file. Begin with `tosser`, then with specs/Steps.
 #![tactic(auto)]
 
-mod counting;
-mod drafting;
-mod fault;
-mod grouping;
-mod laws;
-mod outgoing;
-mod packets;
-mod packing;
 mod posting;
-mod receiving;
-mod refusing;
-mod resending;
+mod purging;
 mod scanning;
-mod sets;
-mod step_error;
-mod tally;
+mod storing;
+mod tosser;
 mod tossing;
-mod ways;
 
-pub use counting::{CountedPacket, count_packets, link_set};
-pub use echo_links::LinkFile;
-pub use fault::TossCause;
-pub use grouping::{Group, gather_group, group_copies};
-pub use laws::packet_laws;
-pub use model_steps::{Draft, Outcome, Packet, PostFault, Stamp};
-pub use packets::{check_destination, toss_packet};
-pub use packing::packet_header;
-pub use posting::post_step;
-pub use resending::{Resend, is_resendable, push_exported, push_resent};
-pub use scanning::scan_step;
-pub use step_error::{PostStepError, ScanStepError, StoppedToss, TossStepError};
-pub use tally::Tally;
-pub use tossing::toss_step;
+pub use base_file::{BaseFault, saved_base_law};
+pub use echo_filed::Filed;
+pub use echo_links::{LinkFault, LinkFile};
+pub use echo_steps::{ReplyRule, Tally, TossCause, TossFault, packet_laws};
+pub use model_steps::{Draft, Outcome, Packet, PostFault, ScanFault, Stamp};
+pub use tosser::Tosser;

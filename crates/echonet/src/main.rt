@@ -18,12 +18,13 @@ use std::{env, io};
 fn run_words<W: Sink, E: Sink>(
     rt: &HostRuntime,
     words: &Words<'_>,
+    notes: bool,
     progress: &Progress<'_>,
     out: &mut W,
     errors: &mut E,
 ) -> Status {
     match words {
-        Words::Net(words) => run_net(rt, words, progress, out, errors),
+        Words::Net(words) => run_net(rt, words, notes, progress, out, errors),
         Words::Base(words) => run_base(rt, words, progress, out, errors),
         Words::ExportJam(words) => run_export_jam(rt, words, out, errors),
         Words::Station(words) => run_station(rt, words, progress, out, errors),
@@ -50,20 +51,15 @@ fn words_given(rt: &HostRuntime) -> Result<Vec<String>, Status> {
 fn run_asked(rt: &HostRuntime, asked: &ParsedLine<'_>) -> Status {
     let progress = Progress::new(rt);
     let noted = ExplainedCommand::of(rt, asked);
-    let keeps = match noted {
-        Some(noted) => noted.has_noted_answer(),
-        None => false,
-    };
-    let to = ErasingOutput::new(&progress, rt.stdout());
-    let mut out = Watched::new(KeptLines::new(rt.alloc(), to, keeps));
+    let mut out = Watched::new(ErasingOutput::new(&progress, rt.stdout()));
     let to = ErasingOutput::new(&progress, rt.stderr());
-    let mut errors = Watched::new(KeptLines::new(rt.alloc(), to, true));
-    let status = run_words(rt, &asked.words, &progress, &mut out, &mut errors);
+    let mut errors = Watched::new(KeptLines::new(rt.alloc(), to));
+    let notes = noted.is_some();
+    let status = run_words(rt, &asked.words, notes, &progress, &mut out, &mut errors);
     let printed = errors.into_inner().into_kept();
-    let answer = out.into_inner().into_kept();
     if let Some(noted) = noted {
         let mut errors = Watched::new(ErasingOutput::new(&progress, rt.stderr()));
-        noted.tell(&printed, &answer, &mut errors);
+        noted.tell(&printed, &mut errors);
     }
     progress.clear();
     status

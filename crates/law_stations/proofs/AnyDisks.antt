@@ -1,7 +1,7 @@
 -- A new message is in order over crashes, from any disks on.
 use Rattle.std.proofs.Common.{◌≡◌, inl, inr, refl, sym, subst, ap, ◌∙◌, ℕ, zero, suc, ◌+◌, ◌≤◌, ◌<◌, arith, List, [], ◌∷◌, ◌++◌, filter, length, map, Option, Some, None}
 use Rattle.std.proofs.lemmas.{Bool.{cond-false, cond-true, ltb-false, ltb-true, not-true}, List.{length-append, length-map}}
-use Rattle.{std.specs.Prelude.{Bool, true, false, not, if◌then◌else◌}, cmd_status.specs.Inputs.AreLinkFiles, model_graph.specs.{Walk.Among, Cycle.Polygons}}
+use Rattle.{std.specs.Prelude.{Bool, true, false, not, if◌then◌else◌}, echo_addr.specs.declared.address.Address.Address, cmd_status.specs.Inputs.AreLinkFiles, model_graph.specs.{Walk.Among, Cycle.Polygons}}
 use Rattle.{echo_links.specs.Links.{LinkFile, upper}, echo_filed.specs.{declared.key.Key.Key, Filed.Filed}, model_steps.specs.declared.packet.Packet.Packet}
 use Rattle.model_run.{specs.{Orderly.{sent_count, tag_of}, Run.nth, Tidy.{Joined, lists}}, proofs.Targets.{none_some, some_same}}
 use Rattle.model_run.proofs.{Lists.{and-from, and-parts, filter-no, filter-yes, not_both, nth-append, yes_or_no}, HarmLists.{among-nth, nth-map}}
@@ -125,12 +125,12 @@ tracks stations packets staging =
       tossed = λ j h. absurd h;
     }
 
-module _ (commands plain : List CommandEvent) (d : Disks) (net : Net) (like : Paired IsLikeEvent commands plain) (has : HasNet d net) (tag : List ℕ) (key : Key)
-    (lost : KeyIsNotLost (KeyIsSettled net key) plain net tag key) (read_all : (ps : List Packet) × Paired ReadsAs net.packets ps) where
-  held : (i : ℕ) (file : LinkFile) (messages : List Filed) (cursor : ℕ) → StationHolds d.net i file messages cursor → StationHolds net i file messages cursor
+-- what holds on disks if it holds on a net that they have
+module _ (d : Disks) (net : Net) (has : HasNet d net) (key : Key) (read_all : (ps : List Packet) × Paired ReadsAs net.packets ps) where
+  pub held : (i : ℕ) (file : LinkFile) (messages : List Filed) (cursor : ℕ) → StationHolds d.net i file messages cursor → StationHolds net i file messages cursor
   held i file messages cursor = holds-too d.net net i file messages cursor has.stations
 
-  settled : KeyHasSettled d key → KeyIsSettled net key
+  pub settled : KeyHasSettled d key → KeyIsSettled net key
   settled is = record {
     scanned = λ i file messages cursor holds m waits.
         is.named.scanned i file messages cursor (holds-too net d.net i file messages cursor (sym has.stations) holds) m waits;
@@ -148,18 +148,26 @@ module _ (commands plain : List CommandEvent) (d : Disks) (net : Net) (like : Pa
     ];
   }
 
-  less : (a : _) (qs : List Packet) → Paired ReadsAs d.net.packets qs → sent_count a key qs ≤ sent_count a key read_all.0
+  pub less : (a : Address) (qs : List Packet) → Paired ReadsAs d.net.packets qs → sent_count a key qs ≤ sent_count a key read_all.0
   less a qs read = sent-less a key net.packets d.net.packets has.places read_all.0 qs has.named has.once read_all.1 read
+
+module _ (commands plain : List CommandEvent) (d : Disks) (net : Net) (like : Paired IsLikeEvent commands plain) (has : HasNet d net) (tag : List ℕ) (key : Key)
+    (lost : KeyIsNotLost (KeyIsSettled net key) plain net tag key) (read_all : (ps : List Packet) × Paired ReadsAs net.packets ps) where
+  abbrev holds-in : (i : ℕ) (file : LinkFile) (messages : List Filed) (cursor : ℕ) → StationHolds d.net i file messages cursor → StationHolds net i file messages cursor
+  holds-in i file messages cursor holds = held d net has key read_all i file messages cursor holds
+
+  abbrev fewer : (a : Address) (qs : List Packet) → Paired ReadsAs d.net.packets qs → sent_count a key qs ≤ sent_count a key read_all.0
+  fewer a qs read = less d net has key read_all a qs read
 
   pub not-lost : KeyIsNotLost (KeyHasSettled d key) commands d.net tag key
   not-lost = record {
-    filed_once = λ i file messages cursor holds. lost.filed_once i file messages cursor (held i file messages cursor holds);
+    filed_once = λ i file messages cursor holds. lost.filed_once i file messages cursor (holds-in i file messages cursor holds);
     no_others = λ qs read i file messages cursor holds without.
-        let none = lost.no_others read_all.0 read_all.1 i file messages cursor (held i file messages cursor holds) without in
-        (omega (arith, none.0, less file.system qs read), none.1);
+        let none = lost.no_others read_all.0 read_all.1 i file messages cursor (holds-in i file messages cursor holds) without in
+        (omega (arith, none.0, fewer file.system qs read), none.1);
     all_came = λ is posting among e i file messages cursor holds has_it.
         let P : List Filed → Type 0 = λ ms. Among posting ms in
-        let unchanged = lost.all_came (settled is) posting (subst P has.postings among) e i file messages cursor (held i file messages cursor holds) has_it in
+        let unchanged = lost.all_came (settled d net has key read_all is) posting (subst P has.postings among) e i file messages cursor (holds-in i file messages cursor holds) has_it in
         record { once = unchanged.once; same = λ m h q. unchanged-too commands plain i messages cursor m posting like (unchanged.same m h q) };
   }
 
@@ -167,9 +175,9 @@ module _ (commands plain : List CommandEvent) (d : Disks) (net : Net) (like : Pa
   in-order order = record {
     not_lost = not-lost;
     sent_once = λ qs read i file messages cursor holds.
-        omega (arith, order.sent_once read_all.0 read_all.1 i file messages cursor (held i file messages cursor holds), less file.system qs read);
+        omega (arith, order.sent_once read_all.0 read_all.1 i file messages cursor (holds-in i file messages cursor holds), fewer file.system qs read);
     never_own = λ qs read i file messages cursor holds m in_it own e.
-        omega (arith, order.never_own read_all.0 read_all.1 i file messages cursor (held i file messages cursor holds) m in_it own e, less file.system qs read);
+        omega (arith, order.never_own read_all.0 read_all.1 i file messages cursor (holds-in i file messages cursor holds) m in_it own e, fewer file.system qs read);
   }
 
 -- a net without crashes, and its promise

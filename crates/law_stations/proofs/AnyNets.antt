@@ -43,6 +43,20 @@ systems-filed (station ∷ stations) (file ∷ files) s h = elim h [
   | inr t ↦ systems-filed stations files s t
 ]
 
+-- A key has settled in the run of a net where it has in the net.
+pub has-settled : (net : Net) (run : Run) (key : Key) → Agrees net run → KeyIsSettled net key → HasSettled run key
+has-settled net run key agrees is = record {
+  scanned = λ s there m waits.
+      let (i, at) = among-nth s run.systems there in
+      let (station, found, has) = paired-back HasSystem i s net.stations run.systems agrees.stations at in
+      is.scanned i s.file s.base s.cursor (record { station = station; there = found; says = says-so station s has }) m waits;
+  delivered = λ before packet after whole m in_it e.
+      let at : nth (length before) run.packets ≡ Some packet = ap (nth (length before)) whole ∙ nth-middle packet before after in
+      let (bytes, there, packed) = paired-back IsPacketFile (length before) packet net.packets run.packets agrees.packets at in
+      let D : List ℕ → Type 0 = λ ds. Among (length before) ds in
+      subst D agrees.delivered (is.tossed (length before) bytes packet there (reads bytes packet packed) m in_it e);
+}
+
 module _ (stations : List Station) (packets : List (List ℕ)) (some : IsSomeNet stations packets) (files : List LinkFile) (are : AreLinkFiles (links_at stations) files) where
   abbrev pub first : Run
   first = record { systems = systems_of files stations; packets = some.read_as; delivered = [] }
@@ -95,7 +109,7 @@ module _ (stations : List Station) (packets : List (List ℕ)) (some : IsSomeNet
       (λ p h. (let (bytes, there, is) = bytes-of p h in λ q i. (each-of (IsMessage _) p.messages is.packet.messages.each q i).text.no_zero))
       refl
 
-  new : (key : Key) → IsNewTo stations packets key → IsNew first key
+  pub new : (key : Key) → IsNewTo stations packets key → IsNew first key
   new key is = record {
     unfiled = λ s h.
         let (station, there, has) = station-of s h in
@@ -123,19 +137,6 @@ module _ (stations : List Station) (packets : List (List ℕ)) (some : IsSomeNet
           let P : List LinkFile → Type 0 = λ fs. Joined fs tag in
           new-not_lost the_laws first tag state.0 state.1 (subst P (sym (systems-files stations files are)) joined) key of_area (new key is_new) led.events
 
-      settled : KeyIsSettled net key → HasSettled run key
-      settled is = record {
-        scanned = λ s there m waits.
-            let (i, at) = among-nth s run.systems there in
-            let (station, found, has) = paired-back HasSystem i s net.stations run.systems led.agrees.stations at in
-            is.scanned i s.file s.base s.cursor (record { station = station; there = found; says = says-so station s has }) m waits;
-        delivered = λ before packet after whole m in_it e.
-            let at : nth (length before) run.packets ≡ Some packet = ap (nth (length before)) whole ∙ nth-middle packet before after in
-            let (bytes, there, packed) = paired-back IsPacketFile (length before) packet net.packets run.packets led.agrees.packets at in
-            let D : List ℕ → Type 0 = λ ds. Among (length before) ds in
-            subst D led.agrees.delivered (is.tossed (length before) bytes packet there (reads bytes packet packed) m in_it e);
-      }
-
       unchanged : (i : ℕ) (s : System) → nth i run.systems ≡ Some s → (posting : Filed) → FiledUnchanged s posting → HasUnchanged commands i s.base s.cursor posting
       unchanged i s at posting is = record {
         once = is.once;
@@ -162,7 +163,7 @@ module _ (stations : List Station) (packets : List (List ℕ)) (some : IsSomeNet
             let at = represented net run led.agrees i file messages cursor holds in
             let (f, at_f, posted) = led.agrees.postings posting among_postings in
             at.same (λ f ms c. IsTrue (has_area f tag) → HasUnchanged commands i ms c posting) (λ has_tag. unchanged i at.s at.at posting
-            (lost.all_came (settled is) f at_f posting posted.filed posted.own e at.s at.among has_tag)) has;
+            (lost.all_came (has-settled net run key led.agrees is) f at_f posting posted.filed posted.own e at.s at.among has_tag)) has;
       }
 
       pub in-order : Polygons (lists files tag) → KeyInOrder (KeyIsSettled net key) commands net tag key

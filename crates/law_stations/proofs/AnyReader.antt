@@ -1,7 +1,7 @@
 -- A toss from any readers is a toss from their contents.
 use Rattle.{std.proofs.Common.{◌≡◌, ◌∙◌, refl, sym, inl, inr, Bool, List, [], ◌∷◌, Option, None, Ok, Err, arith}, cmd_status.specs.Devices.{Device, Output}}
 use Rattle.{cmd_status.specs.declared.fault.Fault.Fault, base_file.specs.Base.Base, echo_links.specs.Links.LinkFile}
-use Rattle.{echo_packet.specs.declared.limits.Limits.Limits, echo_toss.specs.PacketsIn.state_in, cmd_store.specs.Coming.{Coming, Opens}}
+use Rattle.{echo_packet.specs.declared.limits.Limits.Limits, echo_steps.specs.PacketsIn.state_in, cmd_store.specs.Coming.{Coming, Opens}}
 use Rattle.cmd_store.specs.{TossRuns.{TossesEachBy, TossesFileBy, run_begun}, TossedPacket.{TossRun, TossesPacketBy}, Tossed.{Tosses, TossesTo}}
 use Rattle.law_stations.specs.Commands.{TossesAll, itself}
 

@@ -1,6 +1,6 @@
 -- For any stops of one station's commands, its disks agree with a net without stops inside a command.
 use Rattle.std.proofs.Common.{◌≡◌, inl, inr, refl, sym, subst, ap, ◌∙◌, ℕ, zero, suc, append-nil, List, [], ◌∷◌, length, map, take, arith}
-use Rattle.{model_graph.specs.Walk.Among, model_steps.specs.SystemState.SystemState, echo_toss.specs.PacketsIn.state_in, model_run.specs.Run.change}
+use Rattle.{model_graph.specs.Walk.Among, model_steps.specs.SystemState.SystemState, echo_steps.specs.PacketsIn.state_in, model_run.specs.Run.change}
 use Rattle.{cmd_store.specs.Coming.{Coming, Fails, Holds, Unknown}, law_stations.specs.Commands.{Command, CommandEvent, Happens, Post, Purge, Scan}}
 use Rattle.law_stations.specs.{Disks.cursor_of, OverCrashes.IsLike, Stopping.PartialEffect, Nets.{Net, Paired, Station, with_base, with_left}}
 use Rattle.law_stations.specs.LoneDisks.{LoneDisks, MayHappenAlone, MayHappenAllAlone, on_net, under_names}
@@ -11,7 +11,7 @@ use Rattle.law_stations.proofs.{FileRuns.{IsPartly, TossedFiles, tossed-all, who
 abbrev pub IsLikeAlone : LoneCommand → LoneCommand → Type 0
 IsLikeAlone (PostAlone words body) plain = plain ≡ PostAlone words body
 IsLikeAlone (ScanAlone stamp) plain = plain ≡ ScanAlone stamp
-IsLikeAlone PurgeAlone plain = plain ≡ PurgeAlone
+IsLikeAlone (PurgeAlone range) plain = plain ≡ PurgeAlone range
 IsLikeAlone (TossAny files) plain = (others : List Coming) × (plain ≡ TossAny others)
 
 itself-like : (command : LoneCommand) → IsLikeAlone command command
@@ -96,8 +96,8 @@ followed-alone (ScanAlone stamp) s new net t (inr (leads, none)) =
       | inl same ↦ idle same
       | inr scans ↦ inr (scans, none)
     ])
-followed-alone PurgeAlone s new net t (inr (leads, none)) =
-    by-event PurgeAlone Purge s new net t leads none (λ plain like. like) (λ next happens idle. elim happens [
+followed-alone (PurgeAlone range) s new net t (inr (leads, none)) =
+    by-event (PurgeAlone range) (Purge range) s new net t leads none (λ plain like. like) (λ next happens idle. elim happens [
       | inl same ↦ idle same
       | inr purges ↦ inr (purges, none)
     ])

@@ -63,7 +63,7 @@ followed event d new net t (inr leads) = by event.command refl leads
     by (Post words body) is (posts, staging) =
         led event (Post words body) net new (like (Post words body) is) (posted-too words body event.station d new net t posts staging)
     by (Scan stamp) is scan = far event stamp d new net t is scan
-    by Purge is (purges, staging) = led event Purge net new (like Purge is) (purged-too event.station d new net t purges staging)
+    by (Purge range) is (purges, staging) = led event (Purge range) net new (like (Purge range) is) (purged-too range event.station d new net t purges staging)
     by (Toss indexes) is (n, tosses, staging) =
         let (others, l) = tossed-too (take n indexes) event.station d new net t tosses staging in
         led event (Toss others) net new (subst (λ (c : Command). IsLike c (Toss others)) (sym is) (others, refl)) l

@@ -3,6 +3,7 @@ use Rattle.std.proofs.Common.{◌≡◌, ◌⊎◌, inl, inr, refl, sym, subst, 
 use Rattle.{std.{proofs.lemmas.Bool.{eqb-false, eqb-true}, specs.Prelude.{Bool, false, if◌then◌else◌}}, model_graph.specs.Walk.Different}
 use Rattle.{echo_links.specs.Links.LinkFile, cmd_status.specs.Inputs.AreLinkFiles, cmd_store.specs.Drafts.draft_given}
 use Rattle.model_run.specs.Run.{Run, System, after_events, change, fresh, nth, posting_at, purging_at, scanning, scanning_at, start}
+use Rattle.base_file.specs.declared.range.PurgeRange.{PurgeRange}
 use Rattle.model_run.{specs.Event.{Posting, Purging, RunEvent, Scanning}, proofs.{Lists.yes_or_no, WholeRuns.{fresh-empty, fresh-files}}}
 use Rattle.{model_run.proofs.HarmSteps.after-append, model_steps.specs.{declared.stamp.Stamp.Stamp, Posting.posting, Scanning.scanned, Stamps.is_stamp}}
 use Rattle.law_stations.specs.Agreement.{Agrees, AreEventsOf, AreEventsOfAll, EventIsEvents, EventsAreARun, HasSystem, file_address, own_address}
@@ -15,7 +16,7 @@ record Led (command : Command) (i : ℕ) (new : Net) (run : Run) : Type 0 where
   events : List RunEvent
   are : AreEventsOf command i events
   agrees : Agrees new (after_events run events)
-  as_filed : (j : ℕ) → ((command ≡ Purge) × (i ≡ j)) ⊎ (AsFiledAt j run.systems → AsFiledAt j (after_events run events).systems)
+  as_filed : (j : ℕ) → ((range : PurgeRange) × (command ≡ Purge range) × (i ≡ j)) ⊎ (AsFiledAt j run.systems → AsFiledAt j (after_events run events).systems)
 
 scanning-as_filed : (j : ℕ) (run : Run) (i : ℕ) (stamp : Stamp) (o : Option System) → AsFiledAt j run.systems → AsFiledAt j (scanning run i stamp o).systems
 scanning-as_filed j run i stamp None at = at
@@ -45,13 +46,13 @@ led (Scan stamp) net new i run apart agrees leads = record {
   agrees = scan-agrees stamp net new i run agrees leads;
   as_filed = λ j. inr (scanning-as_filed j run i stamp (nth i run.systems));
 }
-led Purge net new i run apart agrees leads = record {
-  events = Purging i ∷ [];
+led (Purge range) net new i run apart agrees leads = record {
+  events = Purging i range ∷ [];
   are = refl;
-  agrees = purge-agrees net new i run agrees leads;
+  agrees = purge-agrees range net new i run agrees leads;
   as_filed = λ j. elim (yes_or_no (i == j)) [
-    | inl t ↦ inl (refl, eqb-true i j t)
-    | inr f ↦ inr (change-as_filed j i purging_at run.systems (λ e. absurd (eqb-false i j f e)))
+    | inl t ↦ inl (range, refl, eqb-true i j t)
+    | inr f ↦ inr (change-as_filed j i (purging_at range) run.systems (λ e. absurd (eqb-false i j f e)))
   ];
 }
 led (Toss indexes) net new i run apart agrees leads =
@@ -74,7 +75,7 @@ led-all (command ∷ later) net new run apart agrees (next, inl same, rest) =
       events = more.events;
       are = ([], more.events, refl, inl refl, more.are);
       agrees = more.agrees;
-      as_filed = λ j. elim (more.as_filed j) [ inl was ↦ inl (inr was) | inr keeps ↦ inr keeps ];
+      as_filed = λ j. elim (more.as_filed j) [ inl was ↦ inl (was.0, inr was.1) | inr keeps ↦ inr keeps ];
     }
 led-all (command ∷ later) net new run apart agrees (next, inr leads, rest) =
     let first = led command.command net next command.station run apart agrees leads in
@@ -86,9 +87,9 @@ led-all (command ∷ later) net new run apart agrees (next, inr leads, rest) =
       are = (first.events, more.events, refl, inr first.are, more.are);
       agrees = subst (Agrees new) same more.agrees;
       as_filed = λ j. elim (first.as_filed j) [
-        | inl purge ↦ inl (inl (λ k. record { station = sym purge.1 k; command = sym purge.0 k }))
+        | inl purge ↦ inl (purge.0, inl (λ k. record { station = sym purge.2 k; command = sym purge.1 k }))
         | inr keeps ↦ elim (more.as_filed j) [
-          | inl was ↦ inl (inr was)
+          | inl was ↦ inl (was.0, inr was.1)
           | inr on ↦ (let P : Run → Type 0 = λ r. AsFiledAt j r.systems in inr (λ at. subst P same (on (keeps at))))
         ]
       ];

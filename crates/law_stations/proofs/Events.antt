@@ -4,7 +4,7 @@ use Rattle.{std.proofs.lemmas.List.take_all, base_file.specs.Base.Base, echo_lin
 use Rattle.cmd_store.specs.{declared.{drafting.NewMessage.NewMessage, answering.Answer.Answer}, Coming.Coming, Serials.with_serial, Drafts.draft_given}
 use Rattle.cmd_store.specs.{declared.{letter.Letter.Letter, mailed.MailWords.MailWords}, MailPosted.Mails, FreeSerial.PostsAs, Posted.Posts}
 use Rattle.{cmd_store.specs.{Purged.{HoldsOrPurges, Purges}, Replied.Replies}, model_run.specs.Run.{change, nth}, model_steps.specs.Posting.posted}
-use Rattle.{base_store.specs.Store.purged, law_stations.specs.Commands.{Command, IsPacketAt, Post, Purge, Toss, TossesAll, whole_of}}
+use Rattle.{base_file.specs.declared.range.PurgeRange.PurgeRange, base_store.specs.Store.purged, law_stations.specs.Commands.{Command, IsPacketAt, Post, Purge, Toss, TossesAll, whole_of}}
 use Rattle.law_stations.specs.{Nets.{Paired, Station, with_base, with_left, with_posting, with_tossed}, Kinds.{IsPurge, IsToss}, Disks.Disks}
 use Rattle.law_stations.{specs.DiskKinds.{IsMail, IsPostAs, IsReplyAs}, proofs.Leading.{LeadsTo, MadeOrHeld}}
 
@@ -32,17 +32,17 @@ module _ (station : Station) (file : LinkFile) (i : ℕ) (d : Disks) (there : nt
   mailing letter asked next mails =
       posting-as (IsMail letter asked) asked.free mails.words letter.body next (λ command is. record { words = mails.words; posting = mails.posting; is = is }) mails.made
 
-  pub purging : (next : Base) → Purges station.base next → LeadsTo IsPurge i d next
-  purging next is = record {
-    after = record { net = with_left d.net i [] (purged station.base); staging = d.staging };
+  pub purging : (range : PurgeRange) (next : Base) → Purges range station.base next → LeadsTo (IsPurge range) i d next
+  purging range next is = record {
+    after = record { net = with_left d.net i [] (purged range station.base); staging = d.staging };
     stations = ap (λ (b : Base). change i (with_base b) d.net.stations) (sym is);
-    command = Purge;
+    command = Purge range;
     is = refl;
     leads = (record { station = station; there = there; becomes = refl }, refl);
   }
 
-  pub holding-or-purging : (next : Base) → HoldsOrPurges station.base next → MadeOrHeld IsPurge i d station.base next
-  holding-or-purging next may = ⊎_elim (λ same. inl same) (λ purges. inr (purging next purges)) may
+  pub holding-or-purging : (range : PurgeRange) (next : Base) → HoldsOrPurges range station.base next → MadeOrHeld (IsPurge range) i d station.base next
+  holding-or-purging range next may = ⊎_elim (λ same. inl same) (λ purges. inr (purging range next purges)) may
 
   -- a toss of the packet files of these indexes
   abbrev pub tossing : (files : List Coming) (indexes : List ℕ) (next : Base) → Paired (IsPacketAt d.net.packets) indexes files → TossesAll files file station.base next → LeadsTo (IsToss indexes) i d next

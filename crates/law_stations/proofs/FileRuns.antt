@@ -1,7 +1,7 @@
 -- A toss of packet files, by their bytes: the first ones are tossed whole, and the next may be tossed in part.
 use Rattle.std.proofs.Common.{Bool, ◌≡◌, ◌⊎◌, inl, inr, refl, sym, subst, ap, ℕ, zero, suc, ◌+◌, ◌-◌, ◌≤◌, arith, List, [], ◌∷◌, length, Option, Some, None, Result, Ok, Err}
 use Rattle.{cmd_status.specs.{Devices.Device, declared.fault.Fault.{Fault, TheVariants.OutOfMemory}}, base_file.specs.Base.Base}
-use Rattle.{echo_links.specs.Links.LinkFile, echo_toss.specs.{PacketsIn.state_in, declared.tally.Tally.Tally, PacketSteps.{PacketStep, TossFault}}}
+use Rattle.{echo_links.specs.Links.LinkFile, echo_steps.specs.{PacketsIn.state_in, declared.{fault.TossFault.TossFault, tally.Tally.Tally}, PacketSteps.PacketStep}}
 use Rattle.{model_steps.specs.SystemState.SystemState, cmd_store.specs.{Coming.{Coming, Fails, Holds, Unknown}, TossRuns.{TossesEachBy, TossesFileBy}}}
 use Rattle.{cmd_store.specs.TossedPacket.{ReportsPacket, TossRun, TossesPacketBy}, law_stations.specs.Commands.{TossesAll, itself}}
 use Rattle.{law_stations.proofs.Readings.{TossesFront, TossesPacketThere, TossesSo, tosses-so}, model_run.proofs.Targets.none_some}

@@ -3,7 +3,7 @@ use Rattle.std.proofs.Common.{◌≡◌, ◌≢◌, inl, inr, ◌∙◌, refl, s
 use Rattle.{base_file.specs.Base.Base, base_store.specs.Store.purged, cmd_store.specs.declared.drafting.NewMessage.NewMessage}
 use Rattle.{model_steps.specs.declared.stamp.Stamp.Stamp, model_graph.{specs.Walk.Among, proofs.Members.{Among-append_cases, Among-append_left}}}
 use Rattle.{disk_io.specs.Disk.{DiskState, Files}, disk_atomic.specs.StagingPaths.{dotted, staging_path}, echo_links.specs.LinkLines.LinksOf}
-use Rattle.{echo_toss.specs.PacketsIn.state_in, model_run.{specs.Run.{change, nth}, proofs.{HarmLists.nth-changed as changed-there, Targets.some_same}}}
+use Rattle.{echo_steps.specs.PacketsIn.state_in, model_run.{specs.Run.{change, nth}, proofs.{HarmLists.nth-changed as changed-there, Targets.some_same}}}
 use Rattle.{station.specs.Place.Place, law_stations.specs.{Asked.{Asked, AsksMail, AsksPost, AsksPurge, AsksReply, AsksToss, IsAsked}, DiskKinds.IsPostAs}}
 use Rattle.law_stations.specs.{Commands.{Command, Post, Purge, Scan, Toss, Tosses}, Disks.{Disks, StagingFile}, Nets.{Net, Station, with_base}}
 use Rattle.law_stations.specs.{OnDisks.LeavesElsewhere, PacketNames.{AreOfNet, IsFolderIn, IsPacketName, IsToName, ShowsFolder}, Seats.IsBelow}
@@ -66,7 +66,7 @@ pub asked-no-scan : (asked : Asked) (base : Base) (command : Command) → IsAske
 asked-no-scan (AsksPost free words body) base command is = posts-no-scan free words body command is
 asked-no-scan (AsksReply index answer body) base command is = posts-no-scan answer.free is.words body command is.is
 asked-no-scan (AsksMail letter asked) base command is = posts-no-scan asked.free is.words letter.body command is.is
-asked-no-scan AsksPurge base command is = subst IsNoScan (sym is) tt
+asked-no-scan (AsksPurge range) base command is = subst IsNoScan (sym is) tt
 asked-no-scan (AsksToss indexes) base command is = subst IsNoScan (sym is) tt
 
 -- it leaves packets and staging files, and the link file and the cursor of its station
@@ -94,10 +94,10 @@ quiet (Post words body) i d next no_scan (p, staging) = record {
   station = λ was is there now. with-new i d.net.stations next.net.stations p.next p.station was is (ap (λ (n : Net). n.stations) p.becomes) p.at.there (ap (λ (b : Base). b.cursor) p.makes.is) there now;
 }
 quiet (Scan stamp) i d next no_scan leads = absurd no_scan
-quiet Purge i d next no_scan (p, staging) = record {
+quiet (Purge range) i d next no_scan (p, staging) = record {
   packets = ap (λ (n : Net). n.packets) p.becomes ∙ append-nil d.net.packets;
   staging = staging;
-  station = λ was is there now. with-new i d.net.stations next.net.stations (purged p.station.base) p.station was is (ap (λ (n : Net). n.stations) p.becomes) p.there refl there now;
+  station = λ was is there now. with-new i d.net.stations next.net.stations (purged range p.station.base) p.station was is (ap (λ (n : Net). n.stations) p.becomes) p.there refl there now;
 }
 quiet (Toss indexes) i d next no_scan (n, p, staging) = record {
   packets = ap (λ (x : Net). x.packets) p.becomes;
@@ -123,7 +123,7 @@ pub lead-grows : (command : Option Command) (i j : ℕ) (d next : Disks) → j �
 lead-grows None i j d next other same = grows-same j d next same
 lead-grows (Some (Post words body)) i j d next other leads = quiet-grows i j d next (quiet (Post words body) i d next tt leads)
 lead-grows (Some (Scan stamp)) i j d next other leads = far-grows stamp i j d next other leads
-lead-grows (Some Purge) i j d next other leads = quiet-grows i j d next (quiet Purge i d next tt leads)
+lead-grows (Some (Purge range)) i j d next other leads = quiet-grows i j d next (quiet (Purge range) i d next tt leads)
 lead-grows (Some (Toss indexes)) i j d next other leads = quiet-grows i j d next (quiet (Toss indexes) i d next tt leads)
 
 -- any command keeps packets
@@ -137,7 +137,7 @@ pub lead-keeps : (command : Option Command) (i : ℕ) (d next : Disks) (bytes : 
 lead-keeps None i d next bytes same is = subst (λ (x : Disks). Among bytes x.net.packets) (sym same) is
 lead-keeps (Some (Post words body)) i d next bytes leads is = (quiet-grows i i d next (quiet (Post words body) i d next tt leads)).packets bytes is
 lead-keeps (Some (Scan stamp)) i d next bytes leads is = far-keeps stamp i d next bytes leads is
-lead-keeps (Some Purge) i d next bytes leads is = (quiet-grows i i d next (quiet Purge i d next tt leads)).packets bytes is
+lead-keeps (Some (Purge range)) i d next bytes leads is = (quiet-grows i i d next (quiet (Purge range) i d next tt leads)).packets bytes is
 lead-keeps (Some (Toss indexes)) i d next bytes leads is = (quiet-grows i i d next (quiet (Toss indexes) i d next tt leads)).packets bytes is
 
 -- ---- the folder

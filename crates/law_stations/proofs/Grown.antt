@@ -18,7 +18,7 @@ naming-grows : (net : Net) (bytes : List ℕ) (b : Bool) → Grows net.packets (
 naming-grows net bytes true = same-grows net.packets net.packets refl
 naming-grows net bytes false = (bytes ∷ [], refl)
 
-one-grows : (i : ℕ) (d new : Disks) → EndsOne i d new → Grows d.net.packets new.net.packets
+pub one-grows : (i : ℕ) (d new : Disks) → EndsOne i d new → Grows d.net.packets new.net.packets
 one-grows i d new e = grind (arith, naming-grows, same-grows)
 
 pub some-grow : (n i : ℕ) (d new : Disks) → EndsSome n i d new → Grows d.net.packets new.net.packets
@@ -39,14 +39,14 @@ scan-grows stamp i d new (n, ended, ends, rest) = grows-on d.net.packets ended.n
 pub led-grows : (command : Command) (i : ℕ) (d new : Disks) → PartialEffect command d i new → Grows d.net.packets new.net.packets
 led-grows (Post words body) i d new (posts, staging) = same-grows d.net.packets new.net.packets (ap (λ (n : Net). n.packets) posts.becomes)
 led-grows (Scan stamp) i d new scan = scan-grows stamp i d new scan
-led-grows Purge i d new (purges, staging) = ([], ap (λ (n : Net). n.packets) purges.becomes)
+led-grows (Purge range) i d new (purges, staging) = ([], ap (λ (n : Net). n.packets) purges.becomes)
 led-grows (Toss indexes) i d new (n, tosses, staging) = same-grows d.net.packets new.net.packets (ap (λ (x : Net). x.packets) tosses.becomes)
 
 alone-grows : (command : LoneCommand) (s new : LoneDisks) → MayHappenAlone command s new → Grows s.disks.net.packets new.disks.net.packets
 alone-grows command s new (inl same) = same-grows s.disks.net.packets new.disks.net.packets (ap (λ (x : LoneDisks). x.disks.net.packets) same)
 alone-grows (PostAlone words body) s new (inr (leads, none)) = led-grows (Post words body) 0 s.disks new.disks leads
 alone-grows (ScanAlone stamp) s new (inr (leads, none)) = led-grows (Scan stamp) 0 s.disks new.disks leads
-alone-grows PurgeAlone s new (inr (leads, none)) = led-grows Purge 0 s.disks new.disks leads
+alone-grows (PurgeAlone range) s new (inr (leads, none)) = led-grows (Purge range) 0 s.disks new.disks leads
 alone-grows (TossAny files) s new (inr (n, tosses, staging)) = ([], ap (λ (x : LoneStation). x.net.packets) tosses.becomes)
 
 pub all-grow : (commands : List LoneCommand) (s new : LoneDisks) → MayHappenAllAlone commands s new → Grows s.disks.net.packets new.disks.net.packets

@@ -1,5 +1,6 @@
 pub mod Pairs
 pub mod Systems
+pub mod Tallied
 pub mod Packets
 pub mod Readings
 pub mod Places
@@ -15,6 +16,7 @@ pub mod Headline
 pub mod AnyNets
 pub mod AnyDisks
 pub mod Repairs
+pub mod Beside
 pub mod AnyReader
 pub mod Counting
 pub mod Tracking
@@ -32,6 +34,7 @@ pub mod Purgings
 pub mod Alone
 pub mod Steps
 pub mod LoneShown
+pub mod LoneNets
 pub mod Stays
 pub mod Crashes
 pub mod Grown
@@ -49,5 +52,4 @@ pub mod Sequence
 pub mod GoingOn
 pub mod ScanSteps
 pub mod Folders
-pub mod SequenceExample
 pub mod ShownPackets

@@ -1,19 +1,19 @@
 -- The contents of one station, from the history of its system and its sent packets.
-use Rattle.std.{proofs.Common.{◌≡◌, ◌⊎◌, inl, inr, refl, sym, subst, ap, ◌∙◌, ℕ, ◌≤◌, arith, List, [], ◌∷◌, take, drop}, specs.Prelude.false}
+use Rattle.std.{proofs.Common.{◌≡◌, ◌⊎◌, inl, inr, refl, sym, subst, ap, ◌∙◌, ℕ, ◌≤◌, arith, List, [], ◌∷◌, take, drop, Some}, specs.Prelude.false}
 use Rattle.echo_addr.specs.declared.address.Address.{Address}
 use Rattle.model_graph.{specs.Walk.Among, proofs.Members.Among-append_right}
 use Rattle.echo_packet.specs.{declared.header.Header.Header, Message.Message}
 use Rattle.echo_links.specs.Links.{IsFile, LinkFile}
 use Rattle.echo_filed.specs.{declared.key.Key.Key, Filed.Filed, Filed.key_of, Filed.same_key, Stubs.is_stub, Stubs.stub_of}
 use Rattle.echo_filed.proofs.{Keys.stub_of_stub, StubTests.stub_reported}
-use Rattle.base_file.specs.Base.{IsBase}
+use Rattle.base_file.{specs.Base.IsBase, proofs.StubBases.end_within}
 use Rattle.model_steps.specs.{declared.packet.Packet.Packet, Tossing.received, Tossing.sender_of}
-use Rattle.model_run.specs.{Lone.LoneEvent, Lone.LoneSystem, Lone.PostHere, Lone.PurgeHere, Lone.ScanHere, Lone.TossHere, Lone.lone_at_first, Lone.lone_run, Exports.IsSentCopy, Orderly.copies, Orderly.count, Orderly.sent_count, Run.System, Run.destination, Owed.IsFiledBy, Owed.IsFromLink, Owed.IsOwed}
+use Rattle.model_run.specs.{Lone.LoneEvent, Lone.LoneSystem, Lone.PostHere, Lone.PurgeHere, Lone.ScanHere, Lone.TossHere, Lone.lone_run, Exports.IsSentCopy, Orderly.copies, Orderly.count, Orderly.sent_count, Run.System, Run.destination, Run.nth, Owed.IsFiledBy, Owed.IsFromLink, Owed.IsOwed}
 use Rattle.model_run.proofs.TosserPremises as counts
-use Rattle.model_run.proofs.{Bases.IsKept, Bases.Kept-back, Bases.Kept-count, Bases.Kept-front, Bases.Kept-waiting, Bases.SystemOk, Bases.count-is, Lists.Among-take, Lists.not_both, TosserLaws.the_laws, Filings.run-from, Filings.run-file, Filings.run-left}
+use Rattle.model_run.proofs.{Bases.IsKept, Bases.Kept-back, Bases.Kept-count, Bases.Kept-front, Bases.Kept-waiting, Bases.SystemOk, Bases.count-is, Lists.Among-take, Lists.not_both, TosserLaws.the_laws, Filings.purge-scanned, Filings.purges-called, Filings.run-from, Filings.run-file, Filings.run-left, HarmLists.among-nth, Lists.nth-among}
 use Rattle.model_run.proofs.SentSoFar.{IsSentSoFar, copy-owed, owed-back, owed-there, run-sent, sent-once, sent-others, sent-owed, sent-waiting, base-once, run-due, run-ok}
 use Rattle.law_stations.specs.{AloneInOrder.LoneSays, AloneInOrder.HasCome, AloneInOrder.HoldsPacket, AloneInOrder.IsInOrderAlone, AloneInOrder.IsLeftAlone, Agreement.HasSystem, Agreement.IsPacketFile, InOrder.ReadsAs, Nets.Paired, Nets.Station, LoneStations.LoneCommand, LoneStations.LoneStation}
-use Rattle.law_stations.proofs.{Headline.all-read, OfEvents.posted-own, Pairs.paired-among, Readings.one-in_front, Sound.reads, Systems.said-once, Systems.says-so, Purgings.left-scanned, Purgings.purge-among, Alone.IsLone, Steps.AreOfCommands}
+use Rattle.law_stations.proofs.{Headline.all-read, OfEvents.posted-own, Pairs.paired-among, Readings.one-in_front, Sound.reads, Systems.said-once, Systems.says-so, Purgings.ReachedBy, Purgings.left-at, Purgings.taken-at, Alone.IsLone, Steps.AreOfCommands}
 
 stub-owed : (file : LinkFile) (h : Filed) (a : Address) → IsOwed file h a → IsOwed file (stub_of h) a
 unfolding stub_of
@@ -87,7 +87,7 @@ module _ (commands : List LoneCommand) (file : LinkFile) (fits : IsFile file) (s
             },
           )
       from-event base (ScanHere stamp) among by = absurd by
-      from-event base PurgeHere among by = absurd by
+      from-event base (PurgeHere range) among by = absurd by
 
   kept-of : (m : Filed) → Among m z.system.base → (h : Filed) × Among h z.system.history × IsKept m h
   kept-of m i = Kept-back z.system.cursor z.system.base z.system.history ok.kept m i
@@ -95,15 +95,29 @@ module _ (commands : List LoneCommand) (file : LinkFile) (fits : IsFile file) (s
   came-here : (m : Filed) → Among m z.system.base → (o : Filed) × HasCome s file o × ((m ≡ o) ⊎ IsLeftAlone commands (take z.system.cursor z.system.base) m o)
   came-here m i =
       let left = run-left file events in
-      let (h, j, form) = left-scanned m z.purged_to z.system.cursor z.system.base z.system.history left.base left.purged_before i in (
+      let (k, at) = among-nth m z.system.base i in
+      let (h, there, form) = left-at z.purges k z.system.history m (ap (λ (ns : List Filed). nth k ns) (sym left.base) ∙ at) in (
         h,
-        come h j,
+        come h (nth-among k h z.system.history there),
         elim form [
           | inl same ↦ inl same
-          | inr stub ↦ (let (e, k, p) = purge-among events (lone_at_first file) stub.0 in
-              inr (record { purged = of e k p; scanned_before = stub.1; stub = stub.2 }))
+          | inr stub ↦ inr (left-alone m h k at stub.0 stub.1)
         ],
       )
+    where
+      left-alone : (m h : Filed) (k : ℕ) → nth k z.system.base ≡ Some m → ReachedBy z.purges k h → m ≡ stub_of h → IsLeftAlone commands (take z.system.cursor z.system.base) m h
+      left-alone m h k at by stub =
+          let p = by.purge in
+          let scanned = purge-scanned file events p by.one in
+          let least = end_within p.range.below p.scanned in
+          let before = by.before in
+          record {
+            range = p.range;
+            purged = of p.range (purges-called file events p by.one);
+            within = by.within;
+            scanned_before = taken-at k z.system.cursor z.system.base m at (omega (arith, scanned, least, before));
+            stub = stub;
+          }
 
   filed-once : (h : Filed) → Among h z.system.history → count (key_of h) z.system.base ≡ 1
   filed-once h i = omega (

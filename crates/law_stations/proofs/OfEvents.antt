@@ -5,10 +5,10 @@ use Rattle.{model_graph.proofs.Members.{Among-append_cases, Among-append_left, A
 use Rattle.{echo_links.specs.Links.LinkFile, echo_filed.specs.Filed.Filed, base_file.specs.Base.Base, model_steps.specs.declared.draft.Draft.Draft}
 use Rattle.model_steps.specs.{declared.{fault.PostFault.PostFault, stamp.Stamp.Stamp}, PacketFiles.PacketFile, Posting.{post_refusal, posted, posting}}
 use Rattle.model_steps.{specs.{Scanning.scanned, Stamps.is_stamp}, proofs.{Kept.posting_keeps, Purged.purge_keeps}}
-use Rattle.base_store.specs.Store.{all_scanned, purged, with_message}
+use Rattle.{base_file.specs.declared.range.PurgeRange.PurgeRange, base_store.specs.Store.{all_scanned, purged, with_message}}
 use Rattle.model_run.specs.{Run.{Run, System, after_event, change, filing, posting_at, purging_at, scanning, scanning_at}, Event.{Posting, Purging, Scanning}}
 use Rattle.cmd_store.specs.{declared.drafting.NewMessage.NewMessage, Drafts.{draft_given, refusal_given}, PacketLines.file_sent}
-use Rattle.{echo_toss.specs.PacketsIn.state_in, law_stations.specs.Agreement.{Agrees, HasPosting, HasSystem, IsPacketFile, base_of}}
+use Rattle.{echo_steps.specs.PacketsIn.state_in, law_stations.specs.Agreement.{Agrees, HasPosting, HasSystem, IsPacketFile, base_of}}
 use Rattle.law_stations.{specs.{Nets.{Net, Paired, bytes_of, with_base, with_left}, Commands.{Posts, Purges, Scans}}, proofs.Packets.scanned-fit}
 use Rattle.law_stations.proofs.{Pairs.{paired-append, paired-nth}, Putting.puts-agree, Systems.{file-fits, one-file}}
 use Rattle.model_steps.specs.Purging as steps
@@ -78,22 +78,22 @@ post-agrees words body net new i run agrees posts =
           ];
     }))
 
-base-purged : (s : System) → purged (base_of s) ≡ base_of (purging_at s)
+base-purged : (range : PurgeRange) (s : System) → purged range (base_of s) ≡ base_of (purging_at range s)
 unfolding steps.purged
-base-purged s = refl
+base-purged range s = refl
 
-pub purge-agrees : (net new : Net) (i : ℕ) (run : Run) → Agrees net run → Purges net i new → Agrees new (after_event run (Purging i))
-purge-agrees net new i run agrees purges =
+pub purge-agrees : (range : PurgeRange) (net new : Net) (i : ℕ) (run : Run) → Agrees net run → Purges range net i new → Agrees new (after_event run (Purging i range))
+purge-agrees range net new i run agrees purges =
     let station = purges.station in
     let (s, there, has) = paired-nth HasSystem i station net.stations run.systems agrees.stations purges.there in
     let P : List (List ℕ) → Type 0 = λ files. Paired IsPacketFile files run.packets in
-    subst (λ (n : Net). Agrees n (after_event run (Purging i))) (sym purges.becomes)
-    (puts-agree net run i (purged station.base) purging_at (net.packets ++ []) run.packets [] net.postings agrees (record {
+    subst (λ (n : Net). Agrees n (after_event run (Purging i range))) (sym purges.becomes)
+    (puts-agree net run i (purged range station.base) (purging_at range) (net.packets ++ []) run.packets [] net.postings agrees (record {
       station = station;
       at = purges.there;
       s = s;
       there = there;
-      now = record { links = has.links; base = ap purged has.base ∙ base-purged s; is_base = purge_keeps s.base s.cursor has.is_base };
+      now = record { links = has.links; base = ap (purged range) has.base ∙ base-purged range s; is_base = purge_keeps range s.base s.cursor has.is_base };
       paired = subst P (sym (append-nil net.packets)) agrees.packets;
       longer = λ m h. h;
       kept = λ m h. h;

@@ -3,7 +3,7 @@ use Rattle.std.proofs.Common.{◌≡◌, ◌≢◌, inl, inr, refl, sym, subst, 
 use Rattle.{std.proofs.lemmas.{Bool.{cond-false, ne_eqb}, List.take_all}, model_graph.specs.Walk.Different, echo_packet.specs.declared.header.Header.Header}
 use Rattle.{echo_packet.specs.Message.Message, echo_links.specs.{Links.LinkFile, LinkLines.LinksOf}, base_file.specs.Base.Base}
 use Rattle.model_steps.specs.{declared.packet.Packet.Packet, SystemState.SystemState, Tossing.{destination_of, sender_of}}
-use Rattle.echo_toss.specs.{PacketSteps.IsForUs, PacketsIn.state_in}
+use Rattle.echo_steps.specs.{PacketSteps.IsForUs, PacketsIn.state_in}
 use Rattle.model_run.specs.Run.{Run, System, after_events, change, coming, delivery, destination, nth, part_delivery, receiver, state_of, taking, tossing_at, with_index}
 use Rattle.model_run.{specs.Event.{Delivery, PartDelivery, RunEvent}, proofs.HarmLists.nth-changed as changed-there}
 use Rattle.{cmd_status.specs.declared.fault.Fault.Fault, cmd_store.specs.Coming.{Coming, Fails, Holds, Unknown}}

@@ -1,7 +1,7 @@
 -- A posting, a purge or a toss on the disks is one on the net, and moves no cursor.
 use Rattle.std.proofs.Common.{◌≡◌, ◌⊎◌, inl, inr, refl, sym, subst, ap, ◌∙◌, ℕ, zero, suc, append-nil, List, [], ◌∷◌, ◌++◌, length, map, take, Option, Some, None, arith}
 use Rattle.{base_file.specs.Base.Base, model_graph.specs.Walk.Among, echo_filed.specs.Filed.Filed, echo_links.specs.Links.LinkFile}
-use Rattle.{model_steps.specs.{Posting.posted, SystemState.SystemState}, base_store.specs.Store.purged, echo_toss.specs.PacketsIn.state_in}
+use Rattle.{base_file.specs.declared.range.PurgeRange.PurgeRange, model_steps.specs.{Posting.posted, SystemState.SystemState}, base_store.specs.Store.purged, echo_steps.specs.PacketsIn.state_in}
 use Rattle.model_run.{specs.Run.{change, nth, with_index}, proofs.Lists.{with_index-from, with_index-new, with_index-old}}
 use Rattle.cmd_store.specs.{declared.drafting.NewMessage.NewMessage, Coming.{Coming, Fails, Holds, Unknown}, Drafts.draft_given}
 use Rattle.law_stations.specs.Commands.{Command, IsAt, IsPacketAt, Leads, Post, Posts, Purge, Purges, Toss, Tosses, whole_of}
@@ -39,9 +39,9 @@ posted-too words body i d new net t p staging =
           (subst (λ (n : Net). (j : ℕ) → Among j n.delivered → IsTossedAt t.places net.delivered j) (sym p.becomes) t.tossed);
     }
 
-pub purged-too : (i : ℕ) (d new : Disks) (net : Net) → Tracks d net → Purges d.net i new.net → new.staging ≡ d.staging → Led Purge i net new
-purged-too i d new net t p staging =
-    let next = purged p.station.base in
+pub purged-too : (range : PurgeRange) (i : ℕ) (d new : Disks) (net : Net) → Tracks d net → Purges range d.net i new.net → new.staging ≡ d.staging → Led (Purge range) i net new
+purged-too range i d new net t p staging =
+    let next = purged range p.station.base in
     let there = there-too d net i p.station t.stations p.there in
     record {
       next = with_left net i [] next;
@@ -127,7 +127,7 @@ all-join (x ∷ xs) j ks h = elim h [
   | inr t ↦ all-join xs j (with_index x ks) t
 ]
 
-all-from : (xs : List ℕ) (j : ℕ) (ks : List ℕ) → Among j (with_indexes xs ks) → Among j xs ⊎ Among j ks
+pub all-from : (xs : List ℕ) (j : ℕ) (ks : List ℕ) → Among j (with_indexes xs ks) → Among j xs ⊎ Among j ks
 all-from [] j ks h = inr h
 all-from (x ∷ xs) j ks h = elim (all-from xs j (with_index x ks) h) [
   | inl t ↦ inl (inr t)

@@ -1,19 +1,19 @@
 -- The contents of one station without crashes are those of its disks over crashes.
 use Rattle.std.proofs.Common.{arith, ◌≡◌, inl, inr, subst, List, [], ◌∷◌}
-use Rattle.model_graph.specs.Walk.{Among}
+use Rattle.{base_file.specs.declared.range.PurgeRange.PurgeRange, model_graph.specs.Walk.Among}
 use Rattle.model_run.proofs.{HarmLists.among-nth, Lists.nth-among}
 use Rattle.law_stations.specs.{LoneStations.LoneCommand, LoneStations.LoneStation, LoneStations.PurgeAlone, Nets.Paired, Nets.first_net, AloneInOrder.IsInOrderAlone, AloneInOrder.ShowsStill, AloneOverCrashes.AloneIsInOrderOverCrashes, AloneOverCrashes.AloneStaysOverCrashes, LoneDisks.lone_disks_at_first, LoneDisks.on_net}
 use Rattle.law_stations.proofs.{Pairs.paired-back, Stays.alone-in-order, Stays.alone-stays, EachCommand.first-tracks, EachCommand.has-net, Grown.all-grow, Crashes.IsLikeAlone, Crashes.followed-all-alone}
 
-like-purge : (command : LoneCommand) → IsLikeAlone command PurgeAlone → command ≡ PurgeAlone
-like-purge command like = grind arith
+like-purge : (range : PurgeRange) (command : LoneCommand) → IsLikeAlone command (PurgeAlone range) → command ≡ PurgeAlone range
+like-purge range command like = grind arith
 
-purged-too : (commands plain : List LoneCommand) → Paired IsLikeAlone commands plain → Among PurgeAlone plain → Among PurgeAlone commands
-purged-too commands plain like h =
-    let (k, at) = among-nth PurgeAlone plain h in
-    let (c, there, is) = paired-back IsLikeAlone k PurgeAlone commands plain like at in
+purged-too : (range : PurgeRange) (commands plain : List LoneCommand) → Paired IsLikeAlone commands plain → Among (PurgeAlone range) plain → Among (PurgeAlone range) commands
+purged-too range commands plain like h =
+    let (k, at) = among-nth (PurgeAlone range) plain h in
+    let (c, there, is) = paired-back IsLikeAlone k (PurgeAlone range) commands plain like at in
     let P : LoneCommand → Type 0 = λ x. Among x commands in
-    subst P (like-purge c is) (nth-among k c commands there)
+    subst P (like-purge range c is) (nth-among k c commands there)
 
 in-order-too : (commands plain : List LoneCommand) (s : LoneStation) → Paired IsLikeAlone commands plain → IsInOrderAlone plain s → IsInOrderAlone commands s
 in-order-too commands plain s like is = record {
@@ -26,7 +26,7 @@ in-order-too commands plain s like is = record {
         come,
         (elim form [
           | inl same ↦ inl same
-          | inr left ↦ inr (record { purged = purged-too commands plain like left.purged; scanned_before = left.scanned_before; stub = left.stub })
+          | inr left ↦ inr (record { range = left.range; purged = purged-too left.range commands plain like left.purged; within = left.within; scanned_before = left.scanned_before; stub = left.stub })
         ]),
       );
   all_posted = is.all_posted;
@@ -53,7 +53,7 @@ stays-too commands plain s new like is = record {
   cursors = is.cursors;
   messages = λ f f' messages messages' cursor cursor' holds holds' i m e. elim (is.messages f f' messages messages' cursor cursor' holds holds' i m e) [
     | inl same ↦ inl same
-    | inr left ↦ inr (purged-too commands plain like left.0, left.1, left.2)
+    | inr left ↦ inr (record { range = left.0.range; purged = purged-too left.0.range commands plain like left.0.purged; within = left.0.within; before = left.0.before }, left.1)
   ];
   packets = is.packets;
 }

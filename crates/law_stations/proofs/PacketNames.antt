@@ -19,7 +19,7 @@ abbrev ending : List ℕ → List ℕ
 ending own = codes ".~" ++ (own ++ codes "~.new")
 
 -- a packet's path is no staging path, since its name has no tilde
-no-staging : (outbound own name other : List ℕ) → All IsNameByte name → outbound ++ name ≡ staging_path (outbound ++ other) own → ⊥
+pub no-staging : (outbound own name other : List ℕ) → All IsNameByte name → outbound ++ name ≡ staging_path (outbound ++ other) own → ⊥
 no-staging outbound own name other plain is =
     let e : name ≡ other ++ ending own = append_cancel_left outbound name (other ++ ending own) (is ∙ append_assoc outbound other (ending own)) in
     let at : get_or name (length other + 1) 0 ≡ 126 = ap (λ (l : List ℕ). get_or l (length other + 1) 0) e ∙ get_or-append-add other (ending own) 1 0 in

@@ -3,9 +3,9 @@ use Rattle.std.proofs.Common.{◌≡◌, ◌⊎◌, inl, inr, sym, ◌∙◌, �
 use Rattle.{std.specs.List.AllByRecursion, echo_packet.specs.{declared.{header.Header.Header, limits.Limits.Limits}, Header.{header_bytes, word}}}
 use Rattle.{echo_packet.specs.{Message.{AreMessages, IsMessage, Message, messages_bytes}, Packet.PacketOf}, model_steps.specs.SystemState.SystemState}
 use Rattle.model_steps.specs.Tossing.{sender_of, tossed}
-use Rattle.echo_toss.specs.{PacketSteps.{BeginsWith, IsForUs, PacketStep, TossesAll, TossesPart, TossesSome, TossFault}, declared.fault.TossCause.TossCause}
-use Rattle.echo_toss.{specs.declared.tally.Tally.Tally, proofs.{Parsed.{first_messages, one_header, one_list}, WholePackets.where_failed as where-failed}}
-use Rattle.echo_toss.specs.declared.fault.TossCause.TheVariants as stop
+use Rattle.echo_steps.specs.{PacketSteps.{BeginsWith, IsForUs, PacketStep, TossesAll, TossesPart, TossesSome}, declared.fault.{TossCause.TossCause, TossFault.TossFault}}
+use Rattle.echo_steps.{specs.declared.tally.Tally.Tally, proofs.{Parsed.{first_messages, one_header, one_list}, WholePackets.where_failed as where-failed}}
+use Rattle.echo_steps.specs.declared.fault.TossCause.TheVariants as stop
 
 -- limits that both meet
 abbrev both : Limits → Limits → Limits

@@ -2,7 +2,7 @@
 use Rattle.std.proofs.Common.{◌≡◌, ◌≢◌, inl, inr, refl, sym, subst, ap, ◌∙◌, ℕ, zero, suc, ◌≤◌, arith, List, [], ◌∷◌, ◌++◌, length, map, Option, Some}
 use Rattle.std.{proofs.lemmas.List.{length-append, length-map, map-append}, specs.{Prelude.{IsTrue, filter}, List.AllByRecursion}}
 use Rattle.echo_addr.specs.{declared.address.Address.Address, Address.IsAddress}
-use Rattle.model_graph.specs.Walk.{Among, Different}
+use Rattle.model_graph.{specs.Walk.{Among, Different}, proofs.Members.Among-append_cases}
 use Rattle.echo_packet.specs.Header.{AreBytes}
 use Rattle.echo_links.specs.Links.{IsFile, LinkFile, has_area, is_link, links_of}
 use Rattle.echo_filed.{specs.{declared.key.Key.Key, Filed.{Filed, IsFiled, key_of}}, proofs.Plain.all_append}
@@ -11,23 +11,23 @@ use Rattle.model_steps.{specs.{declared.{packet.Packet.Packet, stamp.Stamp.Stamp
 use Rattle.model_run.specs.{Event.RunEvent, Orderly.count, Orderly.origin, Run.Run, Run.System, Run.after_events, Run.destination, Run.nth, States.IsState, States.files_of}
 use Rattle.model_run.specs.Repair.{AreJoined, AreRepairRounds, Besides, HasWhole, IsNoPurge, IsNowhereStub, IsRepairRound, IsRound, RepairEvent, ResendAll, after_repair, after_repairs, is_lacking, rest_packet, resending}
 use Rattle.model_run.specs.Repair as model
-use Rattle.model_run.proofs.{Areas.link-among, Bases.filed-once, HarmLists.among-nth, HarmLists.nth-middle, Lists.Among-filter_to, Lists.Among-map_to, Lists.nth-append, OneMessage.has-one, Reaching.repairs-append, Reaching.rest-ends, Repair.again, Repair.enough-rounds, Repair.later-at, Repair.later-itself, Repair.rounds-everywhere, Repairs.Rounded, Repairs.calmly-later, Repairs.mended-by, Repairs.none-known, Repairs.rounds-of, Saying.rest-origin, States.each-of, Targets.some_same, TosserLaws.the_laws}
-use Rattle.law_stations.specs.Commands.{Command, Purge}
+use Rattle.model_run.proofs.{Areas.link-among, Bases.filed-once, HarmLists.among-nth, HarmLists.nth-middle, Lists.Among-filter_to, Lists.Among-map_to, Lists.nth-append, OneMessage.has-one, Reaching.repairs-append, Reaching.rest-ends, Repair.again, Repair.enough-rounds, Repair.known, Repair.knows, Repair.later-at, Repair.later-itself, Repair.rounds-everywhere, Repairs.Rounded, Repairs.calmly-later, Repairs.mended-by, Repairs.none-known, Repairs.rounds-of, Saying.rest-origin, States.each-of, Targets.some_same, TosserLaws.the_laws}
+use Rattle.{base_file.specs.declared.range.PurgeRange.PurgeRange, law_stations.specs.Commands.{Command, Post, Purge, Scan, Toss}}
 use Rattle.law_stations.specs.{Agreement.Agrees, Agreement.AreEventsOf, Agreement.AreTossesOf, Agreement.HasSystem, Agreement.IsPacketFile, Agreement.IsTossOf, Agreement.file_address, Agreement.own_address, AnyDisks.all_packets, AnyDisks.disks_at, AnyNets.net_at, Disks.Disks, Disks.StagingFile, Disks.cursors, Disks.with_packet, InOrder.StationHolds, Nets.Net, Nets.Paired, Nets.Station, OverCrashes.IsLike}
 use Rattle.law_stations.specs.Repairs.{AreAnyDisks, AreHeldBy, AreNear, AreStationRounds, Calls, CallsNoPurge, ComesTo, HasReachedLink, HaveNoStubs, HaveResent, FilesNothing, HaveWhole, IsStationRound, RepairsMayHappen, RepairCommand, RepairMayHappen, Resend, Resends, Share, bytes_sent}
 use Rattle.law_stations.proofs.{AnyDisks.tracks, AnyNets.begins, AnyNets.first, AnyNets.state, AnyNets.systems-files, Counting.IsItem, Counting.below, Counting.below-step, Counting.times-append, EachCommand.followed, EachEvent.event-is-events, Grown.Grows, Grown.grows-on, Grown.led-grows, Grown.same-grows, Headline.reads-once, Packets.copies-packet, Pairs.paired-append, Pairs.paired-back, Pairs.paired-length, Pairs.paired-nth, Places.addresses-of, Places.addresses-stay, Shown.holds-too, Shown.like-purge, Sound.reads, Sound.represented, Systems.file-fits, Systems.one-file, Systems.says-so, Tracking.IsTagged, Tracking.Tracks, Tracking.paired-so}
 
 -- a packet of a repair
-record Resent (i : ℕ) (area : List ℕ) (to : Address) (held : List (List ℕ)) (stamp : Stamp) (bytes : List ℕ) (net : Net) (run : Run) : Type 0 where
-  s : System
-  there : nth i run.systems ≡ Some s
-  is : IsPacketFile bytes (rest_packet s.file stamp area to held s.base)
-  agrees : Agrees (with_packet net bytes) (model.with_packet run (rest_packet s.file stamp area to held s.base))
+pub record Resent (i : ℕ) (area : List ℕ) (to : Address) (held : List (List ℕ)) (stamp : Stamp) (bytes : List ℕ) (net : Net) (run : Run) : Type 0 where
+  pub s : System
+  pub there : nth i run.systems ≡ Some s
+  pub is : IsPacketFile bytes (rest_packet s.file stamp area to held s.base)
+  pub agrees : Agrees (with_packet net bytes) (model.with_packet run (rest_packet s.file stamp area to held s.base))
 
-abbrev bytes_of : (i : ℕ) (area : List ℕ) (to : Address) (held : List (List ℕ)) (stamp : Stamp) (net new : Net) → Resends i area to held stamp net new → List ℕ
+abbrev pub bytes_of : (i : ℕ) (area : List ℕ) (to : Address) (held : List (List ℕ)) (stamp : Stamp) (net new : Net) → Resends i area to held stamp net new → List ℕ
 bytes_of i area to held stamp net new r = bytes_sent (rest_packet r.file stamp area to held r.station.base.messages)
 
-resent : (i : ℕ) (area : List ℕ) (to : Address) (held : List (List ℕ)) (stamp : Stamp) (other new net : Net) (run : Run) → other.stations ≡ net.stations → Agrees net run
+pub resent : (i : ℕ) (area : List ℕ) (to : Address) (held : List (List ℕ)) (stamp : Stamp) (other new net : Net) (run : Run) → other.stations ≡ net.stations → Agrees net run
     → (r : Resends i area to held stamp other new) → Resent i area to held stamp (bytes_of i area to held stamp other new r) net run
 resent i area to held stamp other new net run stations agrees r =
     let station = r.station in
@@ -57,7 +57,7 @@ resent i area to held stamp other new net run stations agrees r =
     }
 
 -- the events of commands beside a repair
-after-besides : (events : List RunEvent) (run : Run) → after_repairs run (map (λ e. Besides e) events) ≡ after_events run events
+pub after-besides : (events : List RunEvent) (run : Run) → after_repairs run (map (λ e. Besides e) events) ≡ after_events run events
 after-besides [] run = refl
 after-besides (event ∷ later) run = after-besides later (after_repair run (Besides event))
 
@@ -73,14 +73,17 @@ tosses-calm (k ∷ later) events (front, rest, e, is, are) =
     let all = all_append IsNoPurge (map (λ x. Besides x) front) (map (λ x. Besides x) rest) (toss-calm k front is) (tosses-calm later rest are) in
     subst Calm (sym e) (subst (AllByRecursion IsNoPurge) (sym (map-append (λ (x : RunEvent). Besides x) front rest)) all)
 
-command-calm : (command : Command) (i : ℕ) (events : List RunEvent) → command ≢ Purge → AreEventsOf command i events → Calm events
-command-calm command i events other are = grind (arith, tosses-calm)
+command-calm : (command : Command) (i : ℕ) (events : List RunEvent) → ((range : PurgeRange) → command ≢ Purge range) → AreEventsOf command i events → Calm events
+command-calm (Post words body) i events other are = subst Calm (sym are) (tt, tt)
+command-calm (Scan stamp) i events other are = subst Calm (sym are) (tt, tt)
+command-calm (Purge range) i events other are = absurd (other range refl)
+command-calm (Toss indexes) i events other are = tosses-calm indexes events are
 
 -- one more packet file has its name, in the net too
 more-tagged : (packets more : List (List ℕ)) (at : List ℕ) (file : StagingFile) (o : Option ℕ) → IsTagged packets at file o → IsTagged (packets ++ more) at file o
 more-tagged packets more at file o is = grind (arith, nth-append)
 
-one-more : (d new : Disks) (net : Net) (bytes : List ℕ) → Tracks d net → new.net ≡ with_packet d.net bytes → new.staging ≡ d.staging → Tracks new (with_packet net bytes)
+pub one-more : (d new : Disks) (net : Net) (bytes : List ℕ) → Tracks d net → new.net ≡ with_packet d.net bytes → new.staging ≡ d.staging → Tracks new (with_packet net bytes)
 one-more d new net bytes t same staging =
     let n = length net.packets in
     let files = net.packets ++ bytes ∷ [] in
@@ -117,11 +120,11 @@ repairs-grow (command ∷ later) d new (next, first, rest) =
     grows-on d.net.packets next.net.packets new.net.packets (repair-grows command d next first) (repairs-grow later next new rest)
 
 -- a net without crashes that the disks have, and the run that agrees with it
-record Runs (d : Disks) (run : Run) : Type 0 where
-  net : Net
-  tracks : Tracks d net
-  agrees : Agrees net run
-  apart : Different (map own_address run.systems)
+pub record Runs (d : Disks) (run : Run) : Type 0 where
+  pub net : Net
+  pub tracks : Tracks d net
+  pub agrees : Agrees net run
+  pub apart : Different (map own_address run.systems)
 
 -- commands of a repair are events of one
 record LedTo (new : Disks) (run : Run) : Type 0 where
@@ -147,7 +150,7 @@ led-one (Resend i area to held stamp) d new run r calm (inr (resends, staging)) 
 led-one (Calls event) d new run r calm happens =
     let f = followed event d new r.net r.tracks happens in
     let (events, are, then) = event-is-events f.plain r.net f.then run r.apart r.agrees f.happens in
-    let none : f.plain.command ≢ Purge = λ e. calm (like-purge event.command (subst (IsLike event.command) e f.like.command)) in
+    let none : (range : PurgeRange) → f.plain.command ≢ Purge range = λ range e. calm range (like-purge range event.command (subst (IsLike event.command) e f.like.command)) in
     record {
       events = map (λ e. Besides e) events;
       calm = elim are [ inl idle ↦ subst Calm (sym idle) tt | inr some ↦ command-calm f.plain.command f.plain.station events none some ];
@@ -266,19 +269,19 @@ module _ (area : List ℕ) where
 
 -- from any disks on
 module _ (stations : List Station) (packets : List (List ℕ)) (staging : List StagingFile) (files : List LinkFile) (any : AreAnyDisks stations packets staging files) (area : List ℕ) where
-  abbrev all : List (List ℕ)
+  abbrev pub all : List (List ℕ)
   all = all_packets stations packets staging
 
-  abbrev begun : Run
+  abbrev pub begun : Run
   begun = first stations all any.some files any.are_files
 
-  good : IsState begun
+  pub good : IsState begun
   good = state stations all any.some files any.are_files
 
-  their-files : files_of begun ≡ files
+  pub their-files : files_of begun ≡ files
   their-files = systems-files stations files any.are_files
 
-  runs : Runs (disks_at stations packets staging) begun
+  pub runs : Runs (disks_at stations packets staging) begun
   runs = record {
     net = net_at stations all;
     tracks = tracks stations packets staging;
@@ -363,9 +366,14 @@ module _ (stations : List Station) (packets : List (List ℕ)) (staging : List S
             later = later-itself mid.systems;
             come = λ x in_x j y z at_y at_z linked m in_base is_whole.
                 let (w, at_w, more) = later-at mid.systems one.after.systems mended.round.later j y at_y in
-                let kept : w.base ≡ y.base = nothing j y.file w.file y.base w.base y.cursor w.cursor (holds-at after mid made.runs j y at_y) (holds-at last one.after one.runs j w at_w) in
-                let B : List Filed → Type 0 = λ ms. IsTrue (is_known ms (key_of m)) in
-                subst B (kept ∙ ap (λ (s : System). s.base) (some_same (sym at_y ∙ at_z))) (mended.round.come x in_x j y w at_y at_w linked m in_base is_whole);
+                let came = mended.round.come x in_x j y w at_y at_w linked m in_base is_whole in
+                let (posted, kept, new) = nothing j y.file w.file y.base w.base y.cursor w.cursor (holds-at after mid made.runs j y at_y) (holds-at last one.after one.runs j w at_w) in
+                let (n, at_n, same) = known the_laws (key_of m) (y.base ++ posted) (subst (λ (ms : List Filed). IsTrue (is_known ms (key_of m))) kept came) in
+                let (k, at_x) = held-at after mid made.runs x in_x in
+                subst (λ (s : System). IsTrue (is_known s.base (key_of m))) (some_same (sym at_y ∙ at_z)) (elim (Among-append_cases n y.base posted at_n) [
+                  | inl here ↦ knows the_laws (key_of m) y.base n here same
+                  | inr now ↦ absurd (omega (arith, has-one (key_of n) x.base m in_base (sym same), new n now k x.file x.base x.cursor at_x))
+                ]);
           } in
           comes area key (Share area) after after mid mid made.runs made.runs rounded.state
           (λ x h whole y i share. enough-rounds the_laws files area any.differ key joined (length files) (omega arith) mid.systems mid.systems

@@ -1,11 +1,11 @@
 -- Each command that was run on a station does what its command event may do.
 use Rattle.std.proofs.{Common.{◌≡◌, inl, inr, ◌∙◌, sym, subst, arith, ℕ, Bool, List, length, take, Option, Result, Ok, slice_get}, lemmas.List.take_all}
-use Rattle.{std.specs.Prelude.OnOk, base_file.specs.Base.Base, disk_io.specs.Disk.DiskState, echo_links.specs.{Links.LinkFile, LinkLines.LinksOf}}
+use Rattle.{std.specs.Prelude.OnOk, base_file.specs.{Base.Base, declared.range.PurgeRange.PurgeRange}, disk_io.specs.Disk.DiskState, echo_links.specs.{Links.LinkFile, LinkLines.LinksOf}}
 use Rattle.cmd_store.specs.{declared.{drafting.NewMessage.NewMessage, answering.Answer.Answer, letter.Letter.Letter, mailed.MailWords.MailWords}, Coming.Coming}
 use Rattle.cmd_store.specs.{MailPosted.{Mails, MailsOn}, declared.command_error.CommandError.CommandError, FreeSerial.{PostsAs, PostsAsOn}}
-use Rattle.cmd_store.specs.{Purged.{HoldsOrPurges, Purges, PurgesOn}, Replied.{Replies, RepliesOn}, Tossed.{Tosses, TossesIn, TossesTo}}
+use Rattle.cmd_store.specs.{Purged.{HoldsOrPurges, Purges, PurgesIn}, Replied.{Replies, RepliesOn}, Tossed.{Tosses, TossesIn, TossesTo}}
 use Rattle.{echo_packet.specs.declared.limits.Limits.Limits, cmd_status.specs.{declared.fault.Fault.Fault, Devices.{Device, Output}}}
-use Rattle.{echo_toss.specs.PacketsIn.state_in, station.specs.{Place.{KeepsElsewhere, Place}, Running.{IsKept, RunsIn}}}
+use Rattle.{echo_steps.specs.PacketsIn.state_in, station.specs.{Place.{KeepsElsewhere, Place}, Running.{IsKept, RunsIn}}}
 use Rattle.law_stations.specs.OnDisks.{AsMay, IsAfterToss, IsStationAt, ReadsLinks, StaysWhereMet, TossesAsEvent, TossesAsMay}
 use Rattle.law_stations.specs.{Commands.{IsPacketAt, TossesAll, whole_of}, Kinds.{IsPurge, IsToss}, Nets.{Paired, with_indexes}, Disks.Disks}
 use Rattle.law_stations.{specs.DiskKinds.{IsMail, IsPostAs, IsReplyAs}, proofs.Events.{holding-or-purging, mailing, posting-as, purging, replying, tossing}}
@@ -22,13 +22,14 @@ module _ (place : Place) (Reads : LinkFile → Type 0) (IsShut Stops : Fault →
   stays-where-met IsAnswer Makes May result runs i d links at =
       stays place links i d old new at kept IsAnswer Makes May Reads IsShut Stops failed result out out_now runs
 
-  pub purge-does : (result : Result (Unit {0}) CommandError) → RunsIn (λ file base. PurgesOn base out out_now result) (λ file. Purges) (λ file. HoldsOrPurges) place Reads IsShut Stops failed old new out out_now result
-      → AsMay (λ base. IsPurge) place Reads old new result
-  purge-does result runs i d links read at =
-      does place links i d old new at kept IsPurge
-      (λ file base. PurgesOn base out out_now result) (λ file. Purges) (λ file. HoldsOrPurges) Reads read IsShut Stops failed result
-      (λ file next says may. holding-or-purging at.shows.station file i d at.shows.there says next may)
-      (λ file next says purges. purging at.shows.station file i d at.shows.there says next purges) out out_now runs
+  pub purge-does : (word : List ℕ) (range : PurgeRange) (result : Result (Unit {0}) CommandError)
+      → RunsIn (λ file base. PurgesIn word range file base out out_now result) (λ file. Purges range) (λ file. HoldsOrPurges range) place Reads IsShut Stops failed old new out out_now result
+      → AsMay (λ base. IsPurge range) place Reads old new result
+  purge-does word range result runs i d links read at =
+      does place links i d old new at kept (IsPurge range)
+      (λ file base. PurgesIn word range file base out out_now result) (λ file. Purges range) (λ file. HoldsOrPurges range) Reads read IsShut Stops failed result
+      (λ file next says may. holding-or-purging at.shows.station file i d at.shows.there says range next may)
+      (λ file next says purges. purging at.shows.station file i d at.shows.there says range next purges) out out_now runs
 
   pub post-does : (free : Bool) (words : NewMessage) (body : List ℕ) (result : Result (Unit {0}) CommandError)
       → RunsIn (λ file base. PostsAsOn free words (state_in file base) body out out_now result) (λ file. PostsAs free file words body) (λ file. PostsAs free file words body) place Reads IsShut Stops failed old new out out_now result

@@ -11,7 +11,7 @@ use Rattle.cmd_status.specs.{declared.fault.Fault.Fault, Devices.Output}
 use Rattle.model_steps.specs.{PacketFiles.PacketFile, Scanning.scanned, declared.stamp.Stamp.Stamp}
 use Rattle.base_store.specs.Store.{all_scanned}
 use Rattle.cmd_store.specs.{Scanned.ScansOn, declared.command_error.CommandError.CommandError, declared.command_error.CommandError.TheVariants.Met}
-use Rattle.echo_toss.specs.PacketsIn.{state_in}
+use Rattle.echo_steps.specs.PacketsIn.{state_in}
 use Rattle.station.specs.{Place.KeepsElsewhere, Place.Place, Place.RepresentsOrWasLeft, Running.IsNotRun, Running.IsStopped}
 use Rattle.station_scan.specs.Scanning.{AreSentOut, CommitsScan, IsOnItsWay, IsPreparing, IsPutAs, IsPutIn, IsTaken, IsTouched, MayLeave, ScansIn, StopsScanIn, ReportsStop, packets_in}
 use Rattle.station_scan.specs.{Left.IsLeftOf, Publishing.IsOnDisk, Publishing.UnchangedExcept, Sending.HasBytes, Sending.IsStagingOfPacket, Sending.IsOfPacket, Sending.IsWholeAlone, Sends.IsOfThese, Stops.IsOfPlacing, Stops.as_scan, Stops.most, declared.scan_error.ScanError.ScanError, declared.scan_error.ScanError.TheVariants.Command, declared.scan_error.ScanError.TheVariants.Staying}
@@ -47,7 +47,7 @@ IsFailed (Err why) = Unit {0}
 not-both : (result : Result (Unit {0}) ScanError) (why : ScanError) → result ≡ Err why → result ≡ Ok tt → ⊥
 not-both result why is ok = subst IsFailed ok (subst IsFailed (sym is) tt)
 
-cursor-at : (stations : List Station) (i : ℕ) (station : Station) → nth i stations ≡ Some station → nth i (map cursor_of stations) ≡ Some station.base.cursor
+pub cursor-at : (stations : List Station) (i : ℕ) (station : Station) → nth i stations ≡ Some station → nth i (map cursor_of stations) ≡ Some station.base.cursor
 cursor-at [] i station there = absurd (none_some there)
 cursor-at (s ∷ stations) zero station there = ap (λ (t : Station). Some t.base.cursor) (some_same there)
 cursor-at (s ∷ stations) (suc i) station there = cursor-at stations i station there
@@ -207,6 +207,7 @@ module _ (stamp : Stamp) (place : Place) (links outbound : List ℕ) (IsTrue : F
         after = now;
         leads = (n, ended, ends, inr (inr (p.steps, moved, moves bytes, p.ends)));
         shows = record { station = with_base next was; there = now-there; of_links = linked ∙ at.shows.of_links; represented = represented };
+        moved = refl;
         file = file;
         says = says;
         named = p.named;

@@ -112,6 +112,7 @@ module _ {D Kept : Type 0} (state : D → DiskState) (place : Kept → Place) (I
             };
           },
           (after.scan, refl),
+          after.none_waits,
         );
     none = λ before kept folder. record {
       may = refl;

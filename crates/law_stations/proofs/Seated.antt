@@ -1,6 +1,6 @@
 -- The effect of a step on a disk on the stations there, and on those on other disks.
 use Rattle.std.proofs.{Common.{◌≡◌, ◌≢◌, inl, inr, ⊎_elim, ◌∙◌, refl, sym, subst, ap, ℕ, List, Option, Some, None, arith}, lemmas.Bool.cases_eq}
-use Rattle.disk_io.specs.Disk.{DiskState, Files}
+use Rattle.{base_file.specs.Purging.whole, disk_io.specs.Disk.{DiskState, Files}}
 use Rattle.model_run.{specs.Run.{change, nth}, proofs.{HarmLists.nth-changed as changed-there, Targets.some_same}}
 use Rattle.station.specs.Place.{Place}
 use Rattle.law_stations.specs.{Seats.AreNeighbours, Seats.AreSeated, Seats.IsBelow, Seats.IsShared, Seats.Seat, Seats.RepresentsSeat, Seats.reach, Commands.Command, Commands.CommandEvent, Commands.Purge, Disks.Disks, Nets.Station, PacketNames.IsFolderIn, Stopping.MayHappen, Neighbours.IsApart, Neighbours.RepresentsOnDisk, Neighbours.StaysOnDisk, OnDisks.LeavesElsewhere, OnDisks.ShowsStation, Steps.HasCrashed, Steps.HasEnded, Steps.IsAllOnDisk, Steps.IsOn, Steps.MayLead, Steps.WasCut, Steps.WereOthers}
@@ -17,7 +17,7 @@ shown-on place links i disk d s c left = grind arith
 
 -- the result of a command, as an event
 abbrev some_command : Option Command → Command
-some_command None = Purge
+some_command None = Purge whole
 some_command (Some command) = command
 
 abbrev event_of : ℕ → Option Command → CommandEvent

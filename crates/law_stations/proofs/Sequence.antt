@@ -56,7 +56,7 @@ module _ {D Kept : Type 0} (state : D → DiskState) (place : Kept → Place) (s
       let says = subst (λ (l : List ℕ). LinksOf l (Ok file)) (some_same (sym links.seen ∙ ap (λ (x : D). (state x).seen seat.links) (sym one) ∙ shown.at.shows.of_links)) links.judged in
       keep bytes ((shown.folder.files file says).packets name bytes is (ap (λ (x : D). (state x).seen (seat.outbound ++ name)) one ∙ at))
 
-  always : (steps : List (Step D)) (disks : List D) (d last : Disks) → AreSeated state place seats disks d → GoesOn state place seats steps disks d last → AlwaysHaveItsPackets state place seats last.net steps disks
+  pub always : (steps : List (Step D)) (disks : List D) (d last : Disks) → AreSeated state place seats disks d → GoesOn state place seats steps disks d last → AlwaysHaveItsPackets state place seats last.net steps disks
   always [] disks d last seated same = have disks d last seated (λ bytes is. all-keep [] disks d last bytes same is)
   always (step ∷ steps) disks d last seated (next, goes, rest) = (
     have disks d last seated (λ bytes is. all-keep (step ∷ steps) disks d last bytes (next, goes, rest) is),

@@ -1,23 +1,23 @@
 -- The contents of nets without crashes are those of the disks over crashes.
 use Rattle.std.{proofs.Common.{◌≡◌, inl, inr, refl, sym, subst, ap, ◌∙◌, ℕ, ◌+◌, ◌≤◌, arith, List, [], ◌∷◌, map, Some}, specs.Prelude.if◌then◌else◌}
 use Rattle.{echo_addr.specs.declared.address.Address.Address, model_graph.specs.Walk.{Among, Different}, echo_links.specs.Links.{LinkFile, same_address}}
-use Rattle.{echo_filed.specs.{declared.key.Key.Key, Filed.Filed}, model_steps.specs.declared.packet.Packet.Packet}
+use Rattle.{base_file.specs.declared.range.PurgeRange.PurgeRange, echo_filed.specs.{declared.key.Key.Key, Filed.Filed}, model_steps.specs.declared.packet.Packet.Packet}
 use Rattle.model_run.{specs.{Orderly.{copies, count, sent_count}, Run.{destination, nth}}, proofs.{Lists.nth-among, HarmLists.{among-nth, nth-map}}}
 use Rattle.law_stations.specs.{Commands.{Command, CommandEvent, Purge}, OverCrashes.{HasNet, IsLike, IsLikeEvent, SoundOverCrashes}}
 use Rattle.law_stations.{specs.{Nets.{Net, Paired, Station, first_net}, Disks.{Disks, first_disks}}, proofs.EachCommand.{crashes-from, first-tracks}}
 use Rattle.law_stations.{specs.InOrder.{IsSound, IsUnchanged, ReadsAs, StationHolds, WasPurged}, proofs.Headline.reads-once}
 use Rattle.law_stations.proofs.{Pairs.{paired-among, paired-back, paired-nth}, Sound.nets-are-sound, Counting.{IsItem, picked-total, total}}
 
-pub like-purge : (command : Command) → IsLike command Purge → command ≡ Purge
-like-purge command like = grind arith
+pub like-purge : (range : PurgeRange) (command : Command) → IsLike command (Purge range) → command ≡ Purge range
+like-purge range command like = grind arith
 
 purged-too : (commands plain : List CommandEvent) (i : ℕ) → Paired IsLikeEvent commands plain → WasPurged plain i → WasPurged commands i
-purged-too commands plain i like h =
-    let purge : CommandEvent = record { station = i; command = Purge } in
+purged-too commands plain i like (range, h) =
+    let purge : CommandEvent = record { station = i; command = Purge range } in
     let (k, at) = among-nth purge plain h in
     let (c, there, is) = paired-back IsLikeEvent k purge commands plain like at in
     let P : CommandEvent → Type 0 = λ x. Among x commands in
-    subst P (λ j. record { station = sym is.station j; command = like-purge c.command is.command j }) (nth-among k c commands there)
+    (range, subst P (λ j. record { station = sym is.station j; command = like-purge range c.command is.command j }) (nth-among k c commands there))
 
 pub unchanged-too : (commands plain : List CommandEvent) (i : ℕ) (messages : List Filed) (cursor : ℕ) (m posting : Filed) → Paired IsLikeEvent commands plain
     → IsUnchanged plain i messages cursor m posting → IsUnchanged commands i messages cursor m posting

@@ -2,13 +2,14 @@
 use Rattle.std.proofs.{Common.{arith, ◌≡◌, inl, inr, refl, sym, subst, ap, ℕ, true, List, [], ◌∷◌, ◌++◌, length, Ok}, lemmas.List.{append-nil, append_assoc}}
 use Rattle.{std.specs.Prelude.{Bool, false, if◌then◌else◌}, model_graph.specs.Walk.Among, model_run.specs.Run.{Run, change, nth, scanning_at, state_of}}
 use Rattle.{model_graph.proofs.Members.{Among-append_cases, Among-append_left, Among-append_right}, echo_links.specs.{Links.LinkFile, LinkLines.LinksOf}}
-use Rattle.{model_steps.specs.{declared.stamp.Stamp.Stamp, Scanning.scanned, Stamps.is_stamp, SystemState.SystemState}, echo_toss.specs.PacketsIn.state_in}
+use Rattle.{model_steps.specs.{declared.stamp.Stamp.Stamp, Scanning.scanned, Stamps.is_stamp, SystemState.SystemState}, echo_steps.specs.PacketsIn.state_in}
+use Rattle.base_file.specs.declared.range.PurgeRange.{PurgeRange}
 use Rattle.model_run.specs.Lone.{IsOfPackets, LoneEvent, LoneSystem, PostHere, PurgeHere, ScanHere, TossHere, after_lone, lone_run, with_scanned, with_system}
 use Rattle.{model_run.proofs.Filings.run-file, cmd_store.specs.{Coming.Coming, Drafts.draft_given}}
 use Rattle.law_stations.specs.LoneStations.{HappenAlone, LeadsAlone, LoneCommand, LoneStation, NothingCame, PostAlone, PurgeAlone, ScanAlone, TossAny, TossesAny, held_in, lone_station_at_first, tossed_whole}
 use Rattle.law_stations.specs.{Agreement.{Agrees, HasSystem, IsPacketFile}, Nets.{Paired, Station, with_left}}
 use Rattle.law_stations.proofs.{Tosses.{IsTossFrom, IsTossedBy, TossesFrom, files-tossed, front-plain, whole-first}, FileRuns.{TossedFiles, tossed-all, wholes}}
-use Rattle.law_stations.proofs.{OfEvents.{post-agrees, purge-agrees, scan-agrees}, Putting.puts-agree, Systems.{file-fits, one-file}, Purgings.IsPurge}
+use Rattle.law_stations.proofs.{OfEvents.{post-agrees, purge-agrees, scan-agrees}, Putting.puts-agree, Systems.{file-fits, one-file}}
 use Rattle.law_stations.proofs.Alone.{IsLone, first-lone, lone-more, run_alone}
 
 -- an event that is no toss
@@ -97,7 +98,7 @@ module _ (files : List Coming) (file : LinkFile) (s new : LoneStation) (events :
   plain-from (PostHere tag draft serial stamp) h = absurd h
   plain-from (TossHere sender messages) (bytes, i, front) = front-plain bytes front.limits front.header messages front.begins
   plain-from (ScanHere stamp) h = absurd h
-  plain-from PurgeHere h = absurd h
+  plain-from (PurgeHere range) h = absurd h
 
   pub toss-step : IsLone file new (events ++ made.events)
   toss-step =
@@ -118,13 +119,23 @@ module _ (files : List Coming) (file : LinkFile) (s new : LoneStation) (events :
 
 -- each purge was done by a command
 abbrev pub AreOfCommands : List LoneCommand → List LoneEvent → Type 0
-AreOfCommands commands events = (e : LoneEvent) → Among e events → IsPurge e → Among PurgeAlone commands
+AreOfCommands commands events = (range : PurgeRange) → Among (PurgeHere range) events → Among (PurgeAlone range) commands
 
-one-of : (P : LoneEvent → Type 0) (event : LoneEvent) → P event → (e : LoneEvent) → Among e (event ∷ []) → P e
-one-of P event h e i = elim i [ inl same ↦ subst P (sym same) h | inr end ↦ absurd end ]
+-- the event is no purge
+abbrev IsNoPurge : LoneEvent → Type 0
+IsNoPurge (PurgeHere range) = ⊥
+IsNoPurge other = Unit {0}
 
-no-purge-from : (file : LinkFile) (files : List (List ℕ)) (e : LoneEvent) → IsTossFrom file files e → IsPurge e → ⊥
-no-purge-from file files e from h = grind arith
+one-of : (commands : List LoneCommand) (event : LoneEvent) → IsNoPurge event → AreOfCommands commands (event ∷ [])
+one-of commands event kind range i = elim i [ inl same ↦ absurd (subst IsNoPurge (sym same) kind) | inr end ↦ absurd end ]
+
+no-purge-from : (file : LinkFile) (files : List (List ℕ)) (range : PurgeRange) → IsTossFrom file files (PurgeHere range) → ⊥
+no-purge-from file files range from = grind arith
+
+-- the range of a purge
+abbrev range_of : PurgeRange → LoneEvent → PurgeRange
+range_of other (PurgeHere range) = range
+range_of other event = other
 
 leads-step : (file : LinkFile) (s new : LoneStation) (events : List LoneEvent) (command : LoneCommand) → IsLone file s events → LeadsAlone command s new →
     (added : List LoneEvent) × IsLone file new (events ++ added) × AreOfCommands (command ∷ []) added
@@ -133,7 +144,7 @@ leads-step file s new events (PostAlone words body) lone (posts, same) =
     let event = PostHere words.tag.now (draft_given words body) words.serial words.stamp in (
       event ∷ [],
       quiet-step file s new events event lone tt same (post-agrees words body s.net new.net 0 (run_alone z) lone.agrees posts),
-      one-of (λ e. IsPurge e → Among PurgeAlone (PostAlone words body ∷ [])) event (λ none. absurd none),
+      one-of (PostAlone words body ∷ []) event tt,
     )
 leads-step file s new events (ScanAlone stamp) lone (scans, same) =
     let z = lone_run file events in
@@ -141,19 +152,19 @@ leads-step file s new events (ScanAlone stamp) lone (scans, same) =
       ScanHere stamp ∷ [],
       quiet-step file s new events (ScanHere stamp) lone tt same
           (subst P (scan-same z stamp (is_stamp stamp)) (scan-agrees stamp s.net new.net 0 (run_alone z) lone.agrees scans)),
-      one-of (λ e. IsPurge e → Among PurgeAlone (ScanAlone stamp ∷ [])) (ScanHere stamp) (λ none. absurd none),
+      one-of (ScanAlone stamp ∷ []) (ScanHere stamp) tt,
     )
-leads-step file s new events PurgeAlone lone (purges, same) =
+leads-step file s new events (PurgeAlone range) lone (purges, same) =
     let z = lone_run file events in (
-      PurgeHere ∷ [],
-      quiet-step file s new events PurgeHere lone tt same (purge-agrees s.net new.net 0 (run_alone z) lone.agrees purges),
-      λ e i h. inl refl,
+      PurgeHere range ∷ [],
+      quiet-step file s new events (PurgeHere range) lone tt same (purge-agrees range s.net new.net 0 (run_alone z) lone.agrees purges),
+      λ other i. elim i [ inl e ↦ inl (ap (λ (x : LoneEvent). PurgeAlone (range_of range x)) e) | inr end ↦ absurd end ],
     )
 leads-step file s new events (TossAny files) lone tosses =
     let t = made files file s new events lone tosses in (
       t.events,
       toss-step files file s new events lone tosses,
-      λ e i h. absurd (no-purge-from file (held_in files) e (from-file files file s new events lone tosses e i) h),
+      λ range i. absurd (no-purge-from file (held_in files) range (from-file files file s new events lone tosses (PurgeHere range) i)),
     )
 
 pub commands-lone : (file : LinkFile) (commands : List LoneCommand) (s new : LoneStation) (events : List LoneEvent) → IsLone file s events → HappenAlone commands s new →
@@ -161,20 +172,20 @@ pub commands-lone : (file : LinkFile) (commands : List LoneCommand) (s new : Lon
 commands-lone file [] s new events lone same =
     let P : LoneStation → Type 0 = λ x. IsLone file x (events ++ []) in
     let Q : List LoneEvent → Type 0 = λ es. IsLone file s es in
-    ([], subst P (sym same) (subst Q (sym (append-nil events)) lone), λ e i h. absurd i)
+    ([], subst P (sym same) (subst Q (sym (append-nil events)) lone), λ range i. absurd i)
 commands-lone file (command ∷ later) s new events lone (next, happens, rest) =
     elim happens [
       | inl same ↦ (let P : LoneStation → Type 0 = λ x. IsLone file x events in
           let (more, at_new, of) = commands-lone file later next new events (subst P (sym same) lone) rest in
-          (more, at_new, λ e i h. inr (of e i h)))
+          (more, at_new, λ range i. inr (of range i)))
       | inr leads ↦ (let (added, at_next, first) = leads-step file s next events command lone leads in
           let (more, at_new, of) = commands-lone file later next new (events ++ added) at_next rest in
           let P : List LoneEvent → Type 0 = λ es. IsLone file new es in (
             added ++ more,
             subst P (append_assoc events added more) at_new,
-            λ e i h. elim (Among-append_cases e added more i) [
-              | inl now ↦ elim (first e now h) [ inl here ↦ inl here | inr end ↦ absurd end ]
-              | inr after ↦ inr (of e after h)
+            λ range i. elim (Among-append_cases (PurgeHere range) added more i) [
+              | inl now ↦ elim (first range now) [ inl here ↦ inl here | inr end ↦ absurd end ]
+              | inr after ↦ inr (of range after)
             ],
           ))
     ]

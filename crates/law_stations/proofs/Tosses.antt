@@ -4,7 +4,7 @@ use Rattle.{std.proofs.lemmas.List.take_all, echo_addr.specs.declared.address.Ad
 use Rattle.{model_graph.proofs.Members.{Among-append_cases, Among-append_left, Among-append_right}, echo_packet.specs.declared.header.Header.Header}
 use Rattle.echo_packet.specs.{declared.limits.Limits.Limits, Message.{HasNoZero, IsMessage, Message}, Packet.PacketOf}
 use Rattle.{echo_links.specs.Links.{IsFile, LinkFile}, base_file.specs.Base.IsBase, model_steps.specs.{SystemState.SystemState, Tossing.sender_of}}
-use Rattle.{echo_toss.specs.PacketSteps.BeginsWith, model_run.specs.Lone.{LoneEvent, LoneSystem, TossHere, after_all_lone, with_system}}
+use Rattle.{echo_steps.specs.PacketSteps.BeginsWith, model_run.specs.Lone.{LoneEvent, LoneSystem, TossHere, after_all_lone, with_system}}
 use Rattle.{model_run.{specs.Run.{System, state_of, tossing_at}, proofs.{Filings.events-append, States.each-of}}, cmd_status.specs.declared.fault.Fault.Fault}
 use Rattle.{cmd_store.specs.Coming.{Coming, Fails, Holds, Unknown}, law_stations.proofs.{FileRuns.{IsPartly, TossedFiles, wholes}, Readings.TossesFront}}
 use Rattle.law_stations.{proofs.Tossed.{Takes, takes-both, takes-front, takes-none}, specs.AloneInOrder.FaultlessTossIsWhole}

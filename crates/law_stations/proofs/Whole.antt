@@ -60,7 +60,7 @@ scan-far stamp i net new scans =
 led-far : (command : Command) (i : ℕ) (net new : Net) → Leads command net i new → PartialEffect command (disks_of net) i (disks_of new)
 led-far (Post words body) i net new leads = (leads, refl)
 led-far (Scan stamp) i net new leads = scan-far stamp i net new leads
-led-far Purge i net new leads = (leads, refl)
+led-far (Purge range) i net new leads = (leads, refl)
 led-far (Toss indexes) i net new leads =
     let P : List ℕ → Type 0 = λ ks. Tosses ks net i new in
     (length indexes, subst P (sym (take_all (length indexes) indexes (omega arith))) leads, refl)

@@ -61,7 +61,7 @@ AreTossesOf (k ∷ later) events = (first : List RunEvent) × (rest : List RunEv
 abbrev pub AreEventsOf : Command → ℕ → List RunEvent → Type 0
 AreEventsOf (Post words body) i events = events ≡ Posting i words.tag.now (draft_given words body) words.serial words.stamp ∷ []
 AreEventsOf (Scan stamp) i events = events ≡ Scanning i stamp ∷ []
-AreEventsOf Purge i events = events ≡ Purging i ∷ []
+AreEventsOf (Purge range) i events = events ≡ Purging i range ∷ []
 AreEventsOf (Toss indexes) i events = AreTossesOf indexes events
 
 -- The events of several commands in order: those of the first, or none, and then those of the later ones.

@@ -1,10 +1,10 @@
 -- The promise about one station, for any bytes that it received.
-use Rattle.std.specs.Prelude.{◌≡◌, ℕ, ◌⊎◌, ◌<◌, ◌≤◌, false, List, [], ◌∷◌, ◌++◌, drop, take, None, Ok, Some}
+use Rattle.std.specs.Prelude.{◌≡◌, ℕ, ◌⊎◌, ◌<◌, ◌≤◌, false, true, List, [], ◌∷◌, ◌++◌, drop, take, None, Ok, Some}
 use Rattle.echo_addr.specs.declared.address.Address.{Address}
 use Rattle.{model_graph.specs.Walk.Among, echo_packet.specs.{declared.{header.Header.Header, limits.Limits.Limits}, Message.Message, Packet.PacketOf}}
-use Rattle.{echo_text.specs.Refusal.text_refusal, echo_links.specs.{Links.LinkFile, LinkLines.LinksOf}, base_file.specs.Base.IsBase}
+use Rattle.{echo_text.specs.Refusal.text_refusal, echo_links.specs.{Links.LinkFile, LinkLines.LinksOf}, base_file.specs.{Base.IsBase, Purging.{is_within, purge_end}, declared.range.PurgeRange.PurgeRange}}
 use Rattle.{echo_filed.specs.{declared.key.Key.Key, Filed.{Filed, key_of}, Stubs.{is_stub, stub_of}}, model_steps.specs.declared.packet.Packet.Packet}
-use Rattle.{model_steps.specs.Tossing.{received, sender_of}, echo_toss.specs.PacketSteps.BeginsWith, model_run.specs.Exports.IsSentCopy}
+use Rattle.{model_steps.specs.Tossing.{received, sender_of}, echo_steps.specs.PacketSteps.BeginsWith, model_run.specs.Exports.IsSentCopy}
 use Rattle.{model_run.specs.{Orderly.{copies, count, sent_count}, Run.{destination, nth}, Owed.{IsFromLink, IsOwed}}, cmd_store.specs.Coming.Coming}
 use Rattle.law_stations.specs.LoneStations.{HappenAlone, LoneCommand, LoneStation, PurgeAlone, TossesAny, held_in, lone_station_at_first}
 use Rattle.law_stations.specs.{InOrder.{ReadsAs, StationSays}, Nets.{Paired, Station}}
@@ -38,9 +38,11 @@ pub record LoneSays (s : LoneStation) (file : LinkFile) (messages : List Filed) 
   pub there : s.net.stations ≡ station ∷ []
   pub says : StationSays station file messages cursor
 
--- A scanned message is the stub of another, and `purge` was called.
+-- A scanned message is the stub of another, and `purge` was called for its area or for all.
 pub record IsLeftAlone (commands : List LoneCommand) (scanned : List Filed) (m o : Filed) : Type 0 where
-  pub purged : Among PurgeAlone commands
+  pub range : PurgeRange
+  pub purged : Among (PurgeAlone range) commands
+  pub within : is_within range.area o ≡ true
   pub scanned_before : Among m scanned
   pub stub : m ≡ stub_of o
 
@@ -86,15 +88,22 @@ abbrev pub AloneIsInOrder : Type 0
 AloneIsInOrder = (links : List ℕ) (file : LinkFile) → LinksOf links (Ok file)
     → (commands : List LoneCommand) (s : LoneStation) → HappenAlone commands (lone_station_at_first links) s → IsInOrderAlone commands s
 
+-- `purge` was called with a range that this message at this place is in. So many messages are scanned now.
+pub record IsReached (commands : List LoneCommand) (cursor i : ℕ) (m : Filed) : Type 0 where
+  pub range : PurgeRange
+  pub purged : Among (PurgeAlone range) commands
+  pub within : is_within range.area m ≡ true
+  pub before : i < purge_end range cursor
+
 -- The later contents of the station keep the present ones. The link file stays, and the cursor does not fall. Each
--- message stays at its place, unchanged or, if it was scanned and `purge` was called since, as its stub. The packet
+-- message stays at its place, unchanged or, if it was scanned and a purge since then reached it, as its stub. The packet
 -- files stay, before later ones.
 pub record ShowsStill (later : List LoneCommand) (s new : LoneStation) : Type 0 where
   pub cursors : (file file' : LinkFile) (messages messages' : List Filed) (cursor cursor' : ℕ) →
       LoneSays s file messages cursor → LoneSays new file' messages' cursor' → (file' ≡ file) × (cursor ≤ cursor')
   pub messages : (file file' : LinkFile) (messages messages' : List Filed) (cursor cursor' : ℕ) →
       LoneSays s file messages cursor → LoneSays new file' messages' cursor' → (i : ℕ) (m : Filed) → nth i messages ≡ Some m →
-      (nth i messages' ≡ Some m) ⊎ (Among PurgeAlone later × (i < cursor') × (nth i messages' ≡ Some (stub_of m)))
+      (nth i messages' ≡ Some m) ⊎ (IsReached later cursor' i m × (nth i messages' ≡ Some (stub_of m)))
   pub packets : (since : List (List ℕ)) × (new.net.packets ≡ s.net.packets ++ since)
 
 -- The station still shows its contents after any later commands.

@@ -1,6 +1,6 @@
 -- The contract of a command at a station, as a statement about the steps of a net.
 use Rattle.std.specs.Prelude.{◌≡◌, ℕ, Bool, List, Option, Some, None, Result, Ok}
-use Rattle.{base_file.specs.Base.Base, disk_io.specs.Disk.DiskState}
+use Rattle.{base_file.specs.{Base.Base, declared.range.PurgeRange.PurgeRange}, disk_io.specs.Disk.DiskState}
 use Rattle.cmd_store.specs.declared.{drafting.NewMessage.NewMessage, answering.Answer.Answer, letter.Letter.Letter, mailed.MailWords.MailWords}
 use Rattle.{cmd_store.specs.declared.command_error.CommandError.CommandError, cmd_status.specs.declared.fault.Fault.Fault, station.specs.Place.Place}
 use Rattle.law_stations.specs.{Commands.Command, Kinds.{IsPurge, IsToss}, Disks.Disks, DiskKinds.{IsMail, IsPostAs, IsReplyAs}, Neighbours.IsKeptOn}
@@ -11,7 +11,7 @@ pub data Asked : Type 0 where
   AsksPost : (free : Bool) (words : NewMessage) (body : List ℕ) → Asked
   AsksReply : (index : ℕ) (answer : Answer) (body : List ℕ) → Asked
   AsksMail : (letter : Letter) (words : MailWords) → Asked
-  AsksPurge : Asked
+  AsksPurge : (range : PurgeRange) → Asked
   AsksToss : (indexes : List ℕ) → Asked
 
 -- The command events that the request may become if the station has this base.
@@ -19,7 +19,7 @@ abbrev pub IsAsked : Asked → Base → Command → Type 0
 IsAsked (AsksPost free words body) base command = IsPostAs free words body command
 IsAsked (AsksReply index answer body) base command = IsReplyAs index answer body base command
 IsAsked (AsksMail letter words) base command = IsMail letter words command
-IsAsked AsksPurge base command = IsPurge command
+IsAsked (AsksPurge range) base command = IsPurge range command
 IsAsked (AsksToss indexes) base command = IsToss indexes command
 
 -- The answer of the command if it ends well.

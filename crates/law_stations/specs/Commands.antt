@@ -2,7 +2,7 @@
 use Rattle.std.specs.{Prelude.{◌≡◌, ℕ, ◌⊎◌, ◌+◌, ◌-◌, Bool, true, List, [], ◌∷◌, length, map, take, Option, Some, None, Ok}, List.AllByRecursion}
 use Rattle.{base_file.specs.Base.Base, echo_packet.specs.{Header.AreBytes, declared.limits.Limits.Limits}, echo_links.specs.{Links.LinkFile, LinkLines.LinksOf}}
 use Rattle.{model_steps.specs.{PacketFiles.PacketFile, declared.stamp.Stamp.Stamp, Posting.posted, Scanning.scanned, Stamps.is_stamp}, model_run.specs.Run.nth}
-use Rattle.{cmd_status.specs.{declared.fault.Fault.Fault, Devices.Device}, base_store.specs.Store.{all_scanned, purged}, echo_toss.specs.PacketsIn.state_in}
+use Rattle.{base_file.specs.declared.range.PurgeRange.PurgeRange, cmd_status.specs.{declared.fault.Fault.Fault, Devices.Device}, base_store.specs.Store.{all_scanned, purged}, echo_steps.specs.PacketsIn.state_in}
 use Rattle.cmd_store.specs.{declared.drafting.NewMessage.NewMessage, Coming.{Coming, Fails, Holds, Unknown}, Drafts.draft_given, PacketLines.file_sent}
 use Rattle.cmd_store.specs.{TossRuns.{TossesEachBy, run_begun}, TossedPacket.{TossRun, TossesPacketBy}}
 use Rattle.law_stations.specs.Nets.{Net, Paired, Station, with_left, with_posting, with_tossed}
@@ -37,11 +37,11 @@ pub record Scans (stamp : Stamp) (net : Net) (i : ℕ) (new : Net) : Type 0 wher
   pub made : AreScanned stamp file station.base packets
   pub becomes : new ≡ with_left net i packets (all_scanned station.base)
 
--- `purge` commits the base with its stubs.
-pub record Purges (net : Net) (i : ℕ) (new : Net) : Type 0 where
+-- `purge` commits the base with the stubs of the messages in this range.
+pub record Purges (range : PurgeRange) (net : Net) (i : ℕ) (new : Net) : Type 0 where
   pub station : Station
   pub there : nth i net.stations ≡ Some station
-  pub becomes : new ≡ with_left net i [] (purged station.base)
+  pub becomes : new ≡ with_left net i [] (purged range station.base)
 
 -- A reader of which only its state is known.
 abbrev pub itself : Device → Device
@@ -85,7 +85,7 @@ pub record Tosses (indexes : List ℕ) (net : Net) (i : ℕ) (new : Net) : Type 
 pub data Command : Type 0 where
   Post : (words : NewMessage) (body : List ℕ) → Command
   Scan : (stamp : Stamp) → Command
-  Purge : Command
+  Purge : (range : PurgeRange) → Command
   Toss : (indexes : List ℕ) → Command
 
 -- A command is called at the station with an index.
@@ -97,7 +97,7 @@ pub record CommandEvent : Type 0 where
 abbrev pub Leads : Command → Net → ℕ → Net → Type 0
 Leads (Post words body) net i new = Posts words body net i new
 Leads (Scan stamp) net i new = Scans stamp net i new
-Leads Purge net i new = Purges net i new
+Leads (Purge range) net i new = Purges range net i new
 Leads (Toss indexes) net i new = Tosses indexes net i new
 
 -- The effect of a command event. If the command is refused, or a device fails before the commit, nothing changes.

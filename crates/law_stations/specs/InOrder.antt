@@ -4,6 +4,7 @@ use Rattle.{cmd_status.specs.Inputs.AreLinkFiles, model_graph.specs.Walk.{Among,
 use Rattle.{echo_packet.specs.{Packet.PacketOf, declared.limits.Limits.Limits}, echo_links.specs.{Links.LinkFile, LinkLines.LinksOf}}
 use Rattle.{base_file.specs.Base.IsBase, echo_filed.specs.{declared.key.Key.Key, Filed.{Filed, key_of}, Stubs.stub_of}}
 use Rattle.{model_steps.specs.declared.packet.Packet.Packet, model_run.specs.{Orderly.{SameContent, count}, Run.nth}, law_stations.specs.Agreement.file_address}
+use Rattle.base_file.specs.declared.range.PurgeRange.{PurgeRange}
 use Rattle.law_stations.specs.{Commands.{CommandEvent, Happen, Purge}, Nets.{Net, Station, first_net}}
 
 -- The contents of a station: its link file, and the messages and the cursor of its base.
@@ -21,9 +22,9 @@ pub record StationHolds (net : Net) (i : ℕ) (file : LinkFile) (messages : List
 abbrev pub ReadsAs : List ℕ → Packet → Type 0
 ReadsAs bytes p = (limits : Limits) × PacketOf limits p.header p.messages bytes
 
--- `purge` was called at the station with the index.
+-- `purge` was called at the station with the index, with some range.
 abbrev pub WasPurged : List CommandEvent → ℕ → Type 0
-WasPurged commands i = Among (record { station = i; command = Purge }) commands
+WasPurged commands i = (range : PurgeRange) × Among (record { station = i; command = Purge range }) commands
 
 -- A message is the stub of one with the content of a posting: it was scanned, and `purge` was called at its station.
 pub record IsLeftByPurge (commands : List CommandEvent) (i : ℕ) (scanned : List Filed) (m posting : Filed) : Type 0 where

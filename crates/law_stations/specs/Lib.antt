@@ -6,13 +6,16 @@ pub mod AnyNets
 pub mod Kinds
 pub mod Disks
 pub mod Stopping
+pub mod Tallied
 pub mod CanEnd
 pub mod OverCrashes
 pub mod AnyDisks
 pub mod Repairs
+pub mod Beside
 pub mod LoneStations
 pub mod AloneInOrder
 pub mod LoneDisks
+pub mod LoneNets
 pub mod AloneOverCrashes
 pub mod DiskKinds
 pub mod OnDisks
@@ -24,5 +27,4 @@ pub mod Asked
 pub mod Scanned
 pub mod Sequences
 pub mod PacketNames
-pub mod SequenceExample
 pub mod ShownPackets

@@ -26,7 +26,7 @@ under_names s = on_net s s.disks.net
 abbrev pub LeadsAloneFar : LoneCommand → LoneDisks → LoneDisks → Type 0
 LeadsAloneFar (PostAlone words body) s new = PartialEffect (Post words body) s.disks 0 new.disks × NothingCame (under_names s) (under_names new)
 LeadsAloneFar (ScanAlone stamp) s new = PartialEffect (Scan stamp) s.disks 0 new.disks × NothingCame (under_names s) (under_names new)
-LeadsAloneFar PurgeAlone s new = PartialEffect Purge s.disks 0 new.disks × NothingCame (under_names s) (under_names new)
+LeadsAloneFar (PurgeAlone range) s new = PartialEffect (Purge range) s.disks 0 new.disks × NothingCame (under_names s) (under_names new)
 LeadsAloneFar (TossAny files) s new = (n : ℕ) × TossesAny (take n files) (under_names s) (under_names new) × (new.disks.staging ≡ s.disks.staging)
 
 -- The possible effects of a command with any stop: none, or it got this far.

@@ -3,6 +3,7 @@ use Rattle.std.specs.Prelude.{◌≡◌, ℕ, ◌⊎◌, ◌+◌, ◌-◌, List,
 use Rattle.base_file.specs.Base.{Base}
 use Rattle.{echo_links.specs.{Links.LinkFile, LinkLines.LinksOf}, model_steps.specs.declared.stamp.Stamp.Stamp, cmd_status.specs.declared.fault.Fault.Fault}
 use Rattle.cmd_store.specs.{declared.drafting.NewMessage.NewMessage, Coming.{Coming, Fails, Holds, Unknown}}
+use Rattle.base_file.specs.declared.range.PurgeRange.{PurgeRange}
 use Rattle.law_stations.specs.{Commands.{Posts, Purges, Scans, TossesAll}, Nets.{Net, Station, first_net, with_left}}
 
 -- The net of the station alone, with the packet files of its scans; and the bytes of all input files of `toss`, in
@@ -54,7 +55,7 @@ pub record TossesAny (files : List Coming) (s new : LoneStation) : Type 0 where
 pub data LoneCommand : Type 0 where
   PostAlone : (words : NewMessage) (body : List ℕ) → LoneCommand
   ScanAlone : (stamp : Stamp) → LoneCommand
-  PurgeAlone : LoneCommand
+  PurgeAlone : (range : PurgeRange) → LoneCommand
   TossAny : (files : List Coming) → LoneCommand
 
 -- The inputs of `toss` are the same as before.
@@ -65,7 +66,7 @@ NothingCame s new = (new.came ≡ s.came) × (new.whole ≡ s.whole)
 abbrev pub LeadsAlone : LoneCommand → LoneStation → LoneStation → Type 0
 LeadsAlone (PostAlone words body) s new = Posts words body s.net 0 new.net × NothingCame s new
 LeadsAlone (ScanAlone stamp) s new = Scans stamp s.net 0 new.net × NothingCame s new
-LeadsAlone PurgeAlone s new = Purges s.net 0 new.net × NothingCame s new
+LeadsAlone (PurgeAlone range) s new = Purges range s.net 0 new.net × NothingCame s new
 LeadsAlone (TossAny files) s new = TossesAny files s new
 
 -- The effect of a command. If it is refused, or a device fails before the commit, nothing changes.

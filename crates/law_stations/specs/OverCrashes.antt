@@ -30,7 +30,7 @@ pub record HasNet (d : Disks) (net : Net) : Type 0 where
 abbrev pub IsLike : Command → Command → Type 0
 IsLike (Post words body) plain = plain ≡ Post words body
 IsLike (Scan stamp) plain = plain ≡ Scan stamp
-IsLike Purge plain = plain ≡ Purge
+IsLike (Purge range) plain = plain ≡ Purge range
 IsLike (Toss indexes) plain = (others : List ℕ) × (plain ≡ Toss others)
 
 -- A like command at the same station.

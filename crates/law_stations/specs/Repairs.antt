@@ -1,11 +1,12 @@
 -- Repair on the disks of a net of stations, from any state on, and for any stops of commands.
-use Rattle.std.specs.{Prelude.{◌≡◌, ◌≢◌, ◌⊎◌, ℕ, zero, suc, ◌≤◌, IsTrue, List, [], ◌∷◌, length, map, Some}, List.AllByRecursion}
+use Rattle.std.specs.{Prelude.{◌≡◌, ◌≢◌, ◌⊎◌, ℕ, zero, suc, ◌≤◌, IsTrue, List, [], ◌∷◌, ◌++◌, length, map, Some}, List.AllByRecursion}
 use Rattle.{echo_addr.specs.declared.address.Address.Address, cmd_status.specs.Inputs.AreLinkFiles, model_graph.specs.Walk.{Among, Different, Walk}}
 use Rattle.{echo_packet.specs.{Header.AreBytes, Packet.packet_bytes}, echo_links.specs.Links.{LinkFile, has_area, is_link}}
 use Rattle.{echo_filed.specs.{declared.key.Key.{Key, TheVariants.ById}, Filed.{Filed, key_of}}, base_file.specs.Base.is_known}
 use Rattle.model_steps.specs.{declared.{packet.Packet.Packet, stamp.Stamp.Stamp}, Resending.is_whole_in, Scanning.copy_to}
 use Rattle.model_run.specs.{Orderly.{count, origin}, Repair.{AreJoined, both_list, is_lacking, rest_packet}, Run.{destination, nth}}
 use Rattle.law_stations.specs.{Agreement.file_address, AnyDisks.{all_packets, disks_at}, AnyNets.{IsSomeNet, links_at, net_at}}
+use Rattle.base_file.specs.declared.range.PurgeRange.{PurgeRange}
 use Rattle.law_stations.specs.{Commands.{CommandEvent, IsAt, Purge}, Disks.{Disks, StagingFile, with_packet}, InOrder.{ReadsAs, StationHolds}}
 use Rattle.law_stations.specs.{Nets.{Net, Station}, Stopping.MayHappen}
 
@@ -38,7 +39,7 @@ RepairsMayHappen (command ∷ later) d new = (next : Disks) × RepairMayHappen c
 
 -- No base is purged.
 abbrev pub CallsNoPurge : RepairCommand → Type 0
-CallsNoPurge (Calls event) = event.command ≢ Purge
+CallsNoPurge (Calls event) = (range : PurgeRange) → event.command ≢ Purge range
 CallsNoPurge other = Unit {0}
 
 -- The stations with this link file know all ids of the list.
@@ -141,10 +142,14 @@ PacketsReach = (stations : List Station) (packets : List (List ℕ)) (staging : 
     → (to : LinkFile) (held : List (List ℕ)) (after : Disks) → (resent : HaveResent i area to.system held before after)
     → Among (length resent.then.net.packets) after.net.delivered → AreHeldBy area after.net to held → HasReachedLink area after.net from to messages
 
--- The messages of each station are those that it had.
+-- No station had a message with the key of one of these.
+abbrev pub AreNewTo : Net → List Filed → Type 0
+AreNewTo net posted = (m : Filed) → Among m posted → (i : ℕ) (file : LinkFile) (messages : List Filed) (cursor : ℕ) → StationHolds net i file messages cursor → count (key_of m) messages ≡ 0
+
+-- The messages of each station are those that it had, and behind them only new ones, as those that were posted there meanwhile.
 abbrev pub FilesNothing : Net → Net → Type 0
 FilesNothing before after = (i : ℕ) (file old : LinkFile) (messages kept : List Filed) (cursor end : ℕ) →
-    StationHolds before i file messages cursor → StationHolds after i old kept end → kept ≡ messages
+    StationHolds before i file messages cursor → StationHolds after i old kept end → (posted : List Filed) × (kept ≡ messages ++ posted) × AreNewTo before posted
 
 -- If a round files nothing after some others, each message was everywhere before it.
 abbrev pub RoundsEnd : Type 0

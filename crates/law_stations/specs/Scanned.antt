@@ -1,5 +1,5 @@
 -- The contracts of a scan and of a toss that ended well, as statements about the steps of a net.
-use Rattle.std.specs.Prelude.{◌≡◌, ◌⊎◌, ℕ, List, Option, None, Result, Ok}
+use Rattle.std.specs.Prelude.{◌≡◌, ◌⊎◌, ℕ, List, [], Option, None, Result, Ok}
 use Rattle.{base_file.specs.Base.Base, disk_io.specs.Disk.{DiskState, Files}}
 use Rattle.{cmd_status.specs.declared.fault.Fault.Fault, model_steps.specs.declared.stamp.Stamp.Stamp, cmd_store.specs.Coming.Coming}
 use Rattle.{cmd_store.specs.declared.command_error.CommandError.CommandError, station.specs.Place.Place, law_stations.specs.Steps.{HasEnded, IsAllOnDisk}}
@@ -28,7 +28,7 @@ HavePackets stamp place links outbound i d ended base c next = (after : AreAfter
 
 -- Of a scan with this timestamp, where the net without earlier staging files is `finished`. If a crash cuts it, the net goes on by its
 -- command event. Before the commit it is as it was, or only earlier staging files are finished. Then the files have the packets.
--- If the scan ends well, the net goes on so too. If station and folder are unchanged, as after a
+-- If the scan ends well, the net goes on so too, and no packet waits. If station and folder are unchanged, as after a
 -- fault, the net goes on by no event.
 pub record ScanGoesOn {D Kept : Type 0} (state : D → DiskState) (place : Kept → Place) (seats : List (Seat Kept)) (seat : Seat Kept) (i : ℕ) (stamp : Stamp) (d finished : Disks) (was : Station) (old whole : D) (result : Result (Unit {0}) ScanError) : Type 0 where
   pub cut : (begun : D) → (state whole).left_since (state old).moment (state begun).seen → IsAllOnDisk (state begun)
@@ -36,7 +36,7 @@ pub record ScanGoesOn {D Kept : Type 0} (state : D → DiskState) (place : Kept 
       × (((goes.next ≡ d) ⊎ (goes.next ≡ finished)) ⊎ HavePackets stamp (place seat.kept) seat.links seat.outbound i d finished was.base (state begun).seen goes.next)
   pub ended : result ≡ Ok tt → IsKeptWhereShared place seats seat i (state whole)
       → (goes : GoesOnEnded (IsScan stamp) place seats seat i d (state old) (state whole))
-      × HavePackets stamp (place seat.kept) seat.links seat.outbound i d finished was.base (state whole).seen goes.next
+      × (have : HavePackets stamp (place seat.kept) seat.links seat.outbound i d finished was.base (state whole).seen goes.next) × (have.0.waiting ≡ [])
   pub none : IsAsBefore (place seat.kept) seat.links i d (state whole) → IsKeptWhereShared place seats seat i (state whole) → ShowsFolder (place seat.kept) seat.outbound i was (state whole) d
       → HasEnded place seats seat i None d d (state old) (state whole)
 

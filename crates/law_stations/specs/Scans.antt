@@ -1,6 +1,6 @@
 -- A scan on a station of a disk.
 use Rattle.std.specs.{Prelude.{◌≡◌, ◌⊎◌, ◌<◌, ◌≤◌, ◌^◌, ◌++◌, ℕ, List, [], length, map, None, Some, Result, Ok, Err}, List.AllByRecursion}
-use Rattle.{base_file.specs.Base.Base, disk_io.specs.Disk.{DiskState, Files}, echo_links.specs.{Links.LinkFile, LinkLines.LinksOf}}
+use Rattle.{base_file.specs.Base.Base, base_store.specs.Store.all_scanned, disk_io.specs.Disk.{DiskState, Files}, echo_links.specs.{Links.LinkFile, LinkLines.LinksOf}}
 use Rattle.{disk_atomic.specs.StagingPaths.{dotted, staging_path}, cmd_status.specs.declared.fault.Fault.Fault, model_steps.specs.PacketFiles.PacketFile}
 use Rattle.{model_steps.specs.declared.stamp.Stamp.Stamp, cmd_store.specs.declared.command_error.CommandError.TheVariants.Met, station.specs.Place.Place}
 use Rattle.station_scan.specs.{Scanning.IsTouched, declared.scan_error.ScanError.{ScanError, TheVariants.Command}}
@@ -16,12 +16,13 @@ IsAtPath outbound c packet = c (outbound ++ packet.name) ≡ Some packet.bytes
 abbrev pub IsStagingPath : List ℕ → List ℕ → Files → PacketFile → Type 0
 IsStagingPath outbound own c packet = (c (staging_path (outbound ++ packet.name) own) ≡ Some packet.bytes) × (c (outbound ++ packet.name) ≡ None)
 
--- The link file and the base are those of the station after a scan of this base that got this far. Some of its
+-- The link file and the base are those of the station after a scan of this base that got this far: its cursor is at the end. Some of its
 -- packets are whole at their paths: these got their names. The others are whole at their staging paths, and wait.
 pub record AreAfterScan (stamp : Stamp) (place : Place) (links outbound : List ℕ) (i : ℕ) (d ended : Disks) (base : Base) (c : Files) : Type 0 where
   pub after : Disks
   pub leads : PartialEffect (Scan stamp) d i after
   pub shows : ShowsStation place links i c after
+  pub moved : shows.station.base ≡ all_scanned base
   pub file : LinkFile
   pub says : LinksOf shows.station.links (Ok file)
   pub named : List PacketFile

@@ -61,5 +61,6 @@ pub record IsSeated {D Kept : Type 0} (state : D → DiskState) (place : Kept �
   pub there : nth seat.disk disks ≡ Some disk
   pub represented : RepresentsSeat place seats i seat (state disk) d
 
+-- Each station is where its seat says.
 abbrev pub AreSeated : {D Kept : Type 0} → (D → DiskState) → (Kept → Place) → List (Seat Kept) → List D → Disks → Type 0
 AreSeated state place seats disks d = (i : ℕ) (seat : Seat _) → nth i seats ≡ Some seat → IsSeated state place seats i seat disks d

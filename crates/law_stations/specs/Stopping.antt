@@ -79,7 +79,7 @@ ScansFar stamp i d new = (n : ℕ) × (ended : Disks) × EndsSome n i d ended
 abbrev pub PartialEffect : Command → Disks → ℕ → Disks → Type 0
 PartialEffect (Post words body) d i new = Posts words body d.net i new.net × (new.staging ≡ d.staging)
 PartialEffect (Scan stamp) d i new = ScansFar stamp i d new
-PartialEffect Purge d i new = Purges d.net i new.net × (new.staging ≡ d.staging)
+PartialEffect (Purge range) d i new = Purges range d.net i new.net × (new.staging ≡ d.staging)
 PartialEffect (Toss indexes) d i new = (n : ℕ) × Tosses (take n indexes) d.net i new.net × (new.staging ≡ d.staging)
 
 -- The possible effects of a command with any stop: none, or it got this far.

@@ -25,12 +25,12 @@ pub fn purge_as_may<
     locks: &mut Locks<L, K>,
     station: P,
     before: &mut Q,
-    command: &mut Purge,
+    command: &mut Purge<'a>,
     out: &mut W,
 ) -> Ended<'a, D, ()>
     requires free { AreFree (L.held locks.old.links) (K.held locks.old.base) }
     requires can { Honestly (D.state disk) (P.can_open station (D.state disk)) }
-    ensures does { Honestly (D.state result.disk) (AsMay (λ base. IsPurge) (P.place station) (P.reads station (D.state disk)) (D.state disk) (D.state result.disk) result.done) }
+    ensures does { Honestly (D.state result.disk) (AsMay (λ base. IsPurge command.old.range) (P.place station) (P.reads station (D.state disk)) (D.state disk) (D.state result.disk) result.done) }
     ensures stays { let failed = HaveFailed (D.failures disk) (D.failures result.disk) (L.failures locks.old.links) (L.failures locks.new.links) (K.failures locks.old.base) (K.failures locks.new.base) in
         Honestly (D.state result.disk) (StaysWhereMet (P.place station) (P.is_shut station failed (D.state disk) (D.state result.disk)) (D.state disk) (D.state result.disk) result.done) }
 {

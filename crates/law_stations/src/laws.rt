@@ -4,7 +4,7 @@ ghost use Rattle.std.specs.Prelude.{◌≡◌, Bool, List, Ok, Option};
 ghost use Rattle.{base_file.specs.Base.Base, echo_links.specs.Links.LinkFile};
 ghost use Rattle.{echo_packet.specs.declared.limits.Limits.Limits, cmd_status.specs.{Devices.{Output, device_of}, declared.fault.Fault.Fault}};
 ghost use Rattle.{cmd_store.specs.{Coming.Coming, Tossed.{Tosses, TossesTo}}, law_stations.specs.{Agreement.{EventIsEvents, EventsAreARun}, Commands.TossesAll}};
-ghost use Rattle.law_stations.specs.{AnyNets.HeadlineFromAnyState, InOrder.NetsAreSound};
+ghost use Rattle.law_stations.specs.{AnyNets.HeadlineFromAnyState, InOrder.NetsAreSound, Tallied.TossesFileNone};
 
 use cmd_store::PacketFiles;
 
@@ -21,6 +21,11 @@ pub fn tosses_answer_what_stopped_them<'a, F: PacketFiles<'a>>(_files: &F)
     ensures { F.is_honest _files.now → (noting : Bool) (limits : Limits) (file : LinkFile) (files left : List Coming) (base next : Base) (old new : Output) (answer : Option Fault) →
         TossesTo (F.is_honest _files.now) noting limits (device_of F.Reader.remaining F.Reader.failures) file base files left old new (Ok answer) next →
         (known : TossesAll files file base next) × (known.stopped ≡ answer) × (known.left ≡ left) }
+{}
+
+/// If a toss of a packet, whole or in part, counts no filed message, its base is as before.
+pub fn tosses_that_file_none()
+    ensures { TossesFileNone }
 {}
 
 /// A command at one station of a net is some events of the run that agrees with the net. They are none, a

@@ -10,7 +10,7 @@
 //!
 //! For crashes, `Disks` has files under their names, and staging files. `Stopping` says how far a command gets, `CanEnd`
 //! treats the files of stopped scans, and `OverCrashes` is the promise about the disks. For one station: `LoneStations`
-//! and `AloneInOrder`, and with crashes `LoneDisks` and `AloneOverCrashes`.
+//! and `AloneInOrder`, and with crashes `LoneDisks` and `AloneOverCrashes`. `LoneNets` joins them to disks.
 //!
 //! For commands on disks: a crash leaves of a command what the law over crashes allows (`commands`, `scanning`,
 //! `disk_laws`). After any steps of a sequence, the disks show a net of the headline over crashes (`sequence_laws`).
@@ -18,8 +18,8 @@
 //! Begin with specs/. `DiskKinds` says which command events a command may be. `OnDisks` says that a link file and a base
 //! on a disk are those of a station; `Scans` adds the packets of a scan. `PacketNames` has the folder of packets as the
 //! net has it, and `ShownPackets` the packet files of `toss`. `Neighbours` has other stations on the same disk. Then read
-//! `Seats` (stations on disks), `Steps` (the effect of a step), `Asked` and `Scanned` (which steps commands are),
-//! `Sequences` (the promise) and `SequenceExample`.
+//! `Seats` (stations on disks), `Steps` (the effect of a step), `Asked` and `Scanned` (which steps commands are), and
+//! `Sequences` (the promise).
 #![tactic(auto)]
 
 mod commands;
@@ -40,19 +40,20 @@ pub use crash_laws::{
 pub use disk_laws::{others_stay, shown_packets_are_known};
 pub use laws::{
     command_is_events, commands_are_a_run, nets_are_sound, new_messages_are_in_order,
-    tosses_answer_what_stopped_them, tosses_are_what_is_known,
+    tosses_answer_what_stopped_them, tosses_are_what_is_known, tosses_that_file_none,
 };
 pub use lone_laws::{
     faultless_tosses_are_whole, lone_stations_are_in_order,
-    lone_stations_are_in_order_over_crashes, what_lone_stations_show_stays,
+    lone_stations_are_in_order_over_crashes, lone_stations_are_in_order_over_sequences,
+    nets_of_one_station_are_in_order, what_lone_stations_show_stays,
     what_lone_stations_show_stays_over_crashes,
 };
 pub use repair_laws::{
-    packets_of_repairs_reach, repairs_bring_all_everywhere, repairs_bring_all_there,
-    what_is_mended_is_everywhere,
+    new_messages_are_in_order_beside_repairs, packets_of_repairs_reach,
+    repairs_bring_all_everywhere, repairs_bring_all_there, what_is_mended_is_everywhere,
 };
 pub use scanning::scan_as_may;
 pub use sequence_laws::{
-    a_cut_scan_goes_on, commands_continue, new_messages_are_in_order_over_sequences,
-    scans_continue, sequences_are_among, tosses_continue,
+    commands_continue, new_messages_are_in_order_over_sequences, scans_continue,
+    sequences_are_among, tosses_continue,
 };

@@ -1,6 +1,9 @@
 //! Laws about the definitions. Each law is the contract of a function that does nothing.
 
-ghost use Rattle.law_stations.specs.{AloneInOrder.AloneIsInOrder, AloneInOrder.AloneStays, AloneInOrder.FaultlessTossIsWhole, AloneOverCrashes.AloneIsInOrderOverCrashes, AloneOverCrashes.AloneStaysOverCrashes};
+ghost use Rattle.law_stations.specs.{AloneInOrder.AloneIsInOrder, AloneInOrder.AloneStays, AloneInOrder.FaultlessTossIsWhole, AloneOverCrashes.AloneIsInOrderOverCrashes, AloneOverCrashes.AloneStaysOverCrashes, LoneNets.LoneSequencesAreInOrder, LoneNets.NetOfOneIsInOrder, Seats.either};
+
+use disk_io::Disk;
+use station::OpenStation;
 
 /// Let any commands be run on one station that begins with an empty base, and let `toss` get any files.
 /// Commands may be refused, and memory and devices may fail. The base has each message at most once, and
@@ -33,4 +36,21 @@ pub fn lone_stations_are_in_order_over_crashes()
 /// unchanged or as its stub. No packet file loses its name.
 pub fn what_lone_stations_show_stays_over_crashes()
     ensures { AloneStaysOverCrashes }
+{}
+
+/// Let the packet files of a net of one station begin with all files of others that it will ever toss. Whatever commands run,
+/// and whatever stops them, the disks of the net without these files are those of a station alone, in order.
+pub fn nets_of_one_station_are_in_order()
+    ensures { NetOfOneIsInOrder }
+{}
+
+/// So it is after any steps at one station on a disk: commands that end or that a crash cuts, crashes between them, and
+/// changes by others. All files that had packets' names in its folder are packets of that net.
+pub fn lone_stations_are_in_order_over_sequences<
+    'a,
+    D: Disk,
+    P: OpenStation<'a, D>,
+    O: OpenStation<'a, D>,
+>()
+    ensures { LoneSequencesAreInOrder D.state (either P.place O.place) }
 {}

@@ -1,6 +1,6 @@
 //! Laws about steps at stations. Each law is the contract of a function that does nothing.
 
-ghost use Rattle.law_stations.specs.{Asked.CommandsGoOn, Scanned.ScansGoOn, Scanned.TossesGoOn, Seats.either, SequenceExample.Story, SequenceExample.StoryGoesOn, Sequences.HeadlineFromAnySequences, Sequences.SequencesAreAmong};
+ghost use Rattle.law_stations.specs.{Asked.CommandsGoOn, Scanned.ScansGoOn, Scanned.TossesGoOn, Seats.either, Sequences.HeadlineFromAnySequences, Sequences.SequencesAreAmong};
 
 use disk_atomic::ListStaged;
 use disk_io::Disk;
@@ -40,10 +40,4 @@ pub fn new_messages_are_in_order_over_sequences<
     O: OpenStation<'a, D>,
 >()
     ensures { HeadlineFromAnySequences D.state (either P.place O.place) }
-{}
-
-/// Such sequences exist, if a posting, a scan and a toss have effects on a net: a post, a scan that a crash cuts, a crash
-/// before the next command, and a toss at the other station.
-pub fn a_cut_scan_goes_on()
-    ensures { (story : Story) → StoryGoesOn story }
 {}

@@ -3,8 +3,10 @@ pub mod Cycles
 pub mod Floods
 pub mod PinchSearch
 pub mod Rows
+pub mod Labels
 pub mod Descending
 pub mod Rings
+pub mod Rounds
 pub mod Turns
 pub mod Renaming
 pub mod BlockWalks

@@ -6,6 +6,7 @@ pub mod Levels
 pub mod Visits
 pub mod Floods
 pub mod Reach
+pub mod Parts
 pub mod Pinches
 pub mod Loops
 pub mod Descents

@@ -30,6 +30,16 @@ abbrev pub HasUnlinked : {A : Type 0} → (A → A → Bool) → List A → Type
 HasUnlinked {A} linked loop = (x : A) × (y : A) × Among x loop × Among y loop × (x ≢ y) × ¬ IsTrue (linked x y)
 
 -- The loop of the first pinch, with the first walk around it.
+-- A cycle with two members that are not linked.
+pub record IsIncompleteCycle {A : Type 0} (linked : A → A → Bool) (loop : List A) : Type 0 where
+  pub cycle : IsCycle linked loop
+  pub unlinked : HasUnlinked linked loop
+
+-- Each member of the ring is linked with the next, and the last with the first.
+abbrev pub AreRingLinks : {A : Type 0} → (A → A → Bool) → List A → Type 0
+AreRingLinks linked [] = Unit {0}
+AreRingLinks {A} linked (first ∷ rest) = (last : A) × Walk linked first rest last × IsTrue (linked last first)
+
 abbrev pub IsFirstRing : {A : Type 0} → (A → A → Type 0) → (A → A → Bool) → List A → Type 0
 IsFirstRing {A} Before linked ring =
     (b : A) × (a : A) × (c : A) × (rest : List A) ×

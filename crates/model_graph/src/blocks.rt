@@ -1,3 +1,5 @@
+//! The blocks of a graph: parts in which any two members lie on a cycle.
+
 ghost use Rattle.std.specs.Prelude.{◌≡◌, ◌↔◌, None, IfOk, IsTrue, slice_index_or};
 ghost use Rattle.model_graph.specs.Blocks.{block_of, top_of, rank_of, full_of, InOneBlock, IsBlockOfLink, IsInFull, LastMembers, OnOneSide};
 

@@ -1,3 +1,5 @@
+//! The blocks of a graph, found by a search in depth and tested.
+
 ghost use Rattle.std.specs.Prelude.{◌≡◌, ◌<◌, ◌↔◌, ℕ, false, IfOk, IsTrue, length};
 ghost use Rattle.model_graph.specs.Blocks.{block_of, top_of, rank_of, full_of, InOneBlock, RanksBefore, IsInBlock, AreBlocks, AreFull};
 ghost use Rattle.model_graph.specs.Rows.{linked, IsGraph};

@@ -1,3 +1,5 @@
+//! A graph of members with their links.
+
 ghost use Rattle.std.specs.{Prelude.{◌≡◌, ◌<◌, ℕ, List, ◌==◌, length}, List.list_any};
 ghost use Rattle.model_graph.specs.Rows.{links_at, linked, IsGraph, IsAscending};
 

@@ -1,3 +1,5 @@
+//! How far each member is from another.
+
 ghost use Rattle.std.specs.Prelude.{◌≡◌, ◌<◌, ◌≢◌, IfOk, None, OnOk, length, vec_len};
 ghost use Rattle.model_graph.specs.{Rows.links_at, Rows.linked, Rows.IsGraph, Levels.level_of, Levels.AreLevels, Visits.Visited, Floods.Flooded, Floods.Searched, Floods.IsSettledFlood};
 
@@ -51,7 +53,7 @@ pub fn flood(
     Ok(())
 }
 
-fn visit(
+pub fn visit(
     graph: &Graph,
     without: usize,
     member: usize,

@@ -11,6 +11,7 @@ mod fullness;
 mod graph;
 mod laws;
 mod levels;
+mod parts;
 mod pinching;
 mod polygons;
 mod reach;
@@ -18,12 +19,13 @@ mod ring;
 mod sound;
 mod writing;
 
-pub use block_loops::{Pieces, find_pieces};
+pub use block_loops::find_loops;
 pub use graph::{Graph, Links};
 pub use laws::{
     along_ways, cycle_written_anew, first_step, further_out, one_way, other_names,
     polygons_where_parted,
 };
+pub use parts::{first_members, part_labels};
 pub use pinching::Pinch;
 pub use polygons::{Loop, find_loop};
 pub use reach::unreached;

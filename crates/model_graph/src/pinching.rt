@@ -1,3 +1,5 @@
+//! The first member at which a cycle has two links that are not linked with each other.
+
 ghost use Rattle.std.specs.Prelude.{◌≡◌, ◌≢◌, ◌<◌, ◌↔◌, ℕ, IsTrue, IfOk, MatchOption, None, length};
 ghost use Rattle.model_graph.specs.Blocks.{block_of, top_of, rank_of, full_of, AreBlocks, AreFull, HasUnlinkedAfter, IsCovered};
 ghost use Rattle.model_graph.specs.{Rows.linked, Rows.IsGraph, Levels.level_of, Levels.AreLevels, Pinches.IsPinch, Pinches.FirstPinch, Pinches.FirstOther, Pinches.FirstHere};
@@ -9,7 +11,7 @@ use crate::levels::levels_around;
 use std::alloc::{AllocError, Global};
 
 /// Two links of a member that are not linked, though a walk joins them that does not pass it.
-#[derive(Clone, Copy, PartialEq, Eq, Debug)]
+#[derive(Clone, Copy, PartialEq, Eq, PartialOrd, Ord, Debug)]
 pub struct Pinch {
     pub at: usize,
     /// The smaller of its two links.

@@ -1,3 +1,5 @@
+//! A cycle with two members that are not linked.
+
 ghost use Rattle.std.specs.Prelude.{IfOk, MatchOption};
 ghost use Rattle.model_graph.specs.{Cycle.Polygons, Rows.linked, Loops.NamedLoop};
 

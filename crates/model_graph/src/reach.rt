@@ -1,3 +1,5 @@
+//! The first member that no walk reaches.
+
 ghost use Rattle.std.specs.Prelude.{◌≡◌, ◌≢◌, ◌<◌, ℕ, IfOk, MatchOption, None, length};
 ghost use Rattle.model_graph.specs.{Walk.Connected, Rows.linked, Levels.level_of, Reach.FirstUnreached};
 

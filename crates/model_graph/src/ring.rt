@@ -1,3 +1,5 @@
+//! The walk around a cycle.
+
 ghost use Rattle.std.specs.Prelude.{◌≡◌, ◌<◌, ◌↔◌, ℕ, IsTrue, IfOk, Some, ◌∷◌, List, length};
 ghost use Rattle.model_graph.specs.{Rows.linked, Rows.IsGraph, Levels.level_of, Pinches.IsPinch, Descents.SmallestAt, Loops.FirstWalk};
 

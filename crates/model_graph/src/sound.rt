@@ -1,3 +1,5 @@
+//! Whether rows of links are a graph.
+
 ghost use Rattle.std.specs.Prelude.{◌≡◌, ◌<◌, ◌↔◌, ℕ, IsTrue, length};
 ghost use Rattle.model_graph.specs.Rows.{links_at, IsAscending, IsGraph, Answered, EachAnswered};
 
@@ -21,7 +23,7 @@ fn rows_ascend(rows: &[Links]) -> bool
     true
 }
 
-fn is_ascending(links: &[usize]) -> bool
+pub fn is_ascending(links: &[usize]) -> bool
     ensures { IsTrue result ↔ IsAscending links.now }
 {
     'links: for place in 1..links.len() {

@@ -2,7 +2,7 @@
 
 use echo_addr::Address;
 use echo_links::LinkFile;
-use model_replay::Receivers;
+use echo_net::Receivers;
 use std::alloc::{AllocError, Global};
 
 #[derive(Clone, Copy)]

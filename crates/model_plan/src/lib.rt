@@ -12,4 +12,4 @@ mod sets;
 mod sketch;
 
 pub use plan::{Guess, Move, Plan};
-pub use planning::find_plan;
+pub use planning::{find_any_plan, find_plan};

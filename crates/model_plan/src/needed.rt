@@ -1,3 +1,5 @@
+//! The moves of a plan that its end needs.
+
 use crate::plan::Move;
 use crate::sketch::{Sent, Sketch};
 use std::alloc::{AllocError, Global};

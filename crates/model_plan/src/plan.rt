@@ -1,3 +1,5 @@
+//! Plans of runs: their moves, and the harm that they are to show.
+
 use echo_addr::Address;
 
 /// What may follow a posting.

@@ -1,3 +1,5 @@
+//! A plan by which the fault of an area would do harm.
+
 use crate::area::PlanArea;
 use crate::circle::short_loop;
 use crate::needed::moves_for;
@@ -5,13 +7,16 @@ use crate::plan::{Guess, Plan};
 use crate::sketch::Sketch;
 use echo_addr::Address;
 use echo_links::LinkFile;
-use echo_net::NetFault;
-use model_replay::Receivers;
+use echo_net::Receivers;
+use echo_verdict::NetFault;
 use std::alloc::{AllocError, Global};
 use std::hash::RandomState;
 
 /// How many systems post in turn if it is not known which posting goes wrong.
 const MOST_TRIED: usize = 4;
+
+/// How many do so if no system of a fault shows it.
+const MOST_OF_ALL: usize = 256;
 
 /// A plan by which the fault would show in the area of the tag, if one is found: of those that were looked at the one with the
 /// fewest moves. Look-ups go by the hasher. Fails only when out of memory.
@@ -34,10 +39,28 @@ pub fn find_plan(
     )
 }
 
+/// A plan by which some posting in the area of the tag would go wrong, if one is found: of the first systems with the area,
+/// each posts. Look-ups go by the hasher. Fails only when out of memory.
+pub fn find_any_plan(
+    alloc: Global,
+    files: &[LinkFile],
+    tag: &[u8],
+    hasher: RandomState,
+) -> Result<Option<Plan>, AllocError> {
+    let receivers = Receivers::new(alloc, files, hasher)?;
+    let area = PlanArea {
+        alloc,
+        files,
+        tag,
+        receivers: &receivers,
+    };
+    shortest(area, &carriers(area, MOST_OF_ALL)?, None)
+}
+
 fn plan(area: PlanArea<'_>, fault: &NetFault) -> Result<Option<Plan>, AllocError> {
     match fault {
         NetFault::NoSuchArea => Ok(None),
-        NetFault::TwoFiles(_) => shortest(area, &carriers(area)?, None),
+        NetFault::TwoFiles(_) => shortest(area, &carriers(area, MOST_TRIED)?, None),
         NetFault::SelfLink(system) => shortest(area, &area.found(&[*system])?, None),
         NetFault::Unknown(system, link) => unknown(area, *system, *link),
         NetFault::OneSided(one, other) | NetFault::Apart(one, other) => {
@@ -104,11 +127,11 @@ fn first_few(alloc: Global, members: &[usize]) -> Result<Vec<usize>, AllocError>
     Ok(few)
 }
 
-// The first few systems that have the area.
-fn carriers(area: PlanArea<'_>) -> Result<Vec<usize>, AllocError> {
+// The first systems that have the area, at most so many.
+fn carriers(area: PlanArea<'_>, most: usize) -> Result<Vec<usize>, AllocError> {
     let mut all = Vec::new(area.alloc);
     for (i, file) in area.files.iter().enumerate() {
-        if all.len() < MOST_TRIED && file.has_area(area.tag) {
+        if all.len() < most && file.has_area(area.tag) {
             all.push(i)?;
         }
     }

@@ -1,10 +1,10 @@
 -- A base, and its history of filed messages.
 pub use Rattle.model_run.specs.States.{IsKept, IsReadable, Kept, RunOk, SystemOk}
-use Rattle.std.{proofs.Common.{◌≡◌, ◌≢◌, inl, inr, refl, sym, subst, ap, ◌∙◌, ℕ, zero, suc, ◌≤◌, arith, List, [], ◌∷◌, ◌++◌, length, take, drop, map, Option, Some, None}, specs.{Prelude.{true, false, bytes_eq, unwrap_or, option_map, filter}, List.list_any}}
+use Rattle.std.{proofs.Common.{Bool, ◌≡◌, ◌≢◌, inl, inr, refl, sym, subst, ap, ◌∙◌, ℕ, zero, suc, ◌≤◌, arith, List, [], ◌∷◌, ◌++◌, length, take, drop, map, Option, Some, None}, specs.{Prelude.{true, false, bytes_eq, unwrap_or, option_map, filter}, List.list_any}}
 use Rattle.model_graph.{specs.Walk.Among, proofs.Members.Among-append_cases}
 use Rattle.echo_text.specs.{Echo.IsEcho, Echo.msgid_of, Refusal.text_refusal, Ids.id_of}
 use Rattle.echo_filed.specs.{declared.key.Key.Key, declared.key.Key.TheVariants.ById, Filed.Filed, Filed.key_of, Filed.key_with, Filed.same_key, Stubs.stub_of, Written.echo_of}
-use Rattle.base_file.specs.Base.{is_known}
+use Rattle.base_file.{specs.{Base.is_known, Purging.{is_within, left_to, purge_end, stub_if}, declared.range.PurgeRange.PurgeRange}, proofs.StubBases.end_within}
 use Rattle.model_steps.{specs.{Scanning.{scanned, packets_of, packet_to, header_to, copy_to, recipients, goes_to}, Posting.{has_id, posted, posting}, Purging.purged, declared.{packet.Packet.Packet, draft.Draft.Draft, stamp.Stamp.Stamp}, Tossing.{received, tossing, sender_of}}, proofs.{Posted.posting_posted, Received.tossing_received}}
 use Rattle.model_run.{specs.{Run.{System, filing, nth, Run, fresh, posting_at, tossing_at, scanning_at, purging_at, receiver, changing, taking, after_event, start}, Orderly.{count, FiledUnchanged, SameContent}, Event.RunEvent, Fits.FilesFit, Keeping.content_of}, proofs.{Lists.{any-to, any-from, and-parts, not_both, Among-filter_from, Among-take, Among-drop, change-all, nth-among, Among-map_from}, EventKinds.{each-kind, scan_of}, TosserPremises.Laws, Targets.some_same}}
 use Rattle.echo_links.specs.Links.{IsFile, LinkFile, upper}
@@ -86,15 +86,20 @@ unfolding stub_of
 stub-sender m = grind arith
 
 module _ (laws : Laws) where
-  purged_kept : (c : ℕ) (base history : List Filed) → Kept c base history → Kept c (map stub_of (take c base) ++ drop c base) history
-  purged_kept zero base history k = k
-  purged_kept (suc c) [] history k = absurd k
-  purged_kept (suc c) (b ∷ base) [] k = absurd k
-  purged_kept (suc c) (b ∷ base) (h ∷ history) k = grind (arith, stub-sender, purged_kept c base history k.1)
+  stub_kept : (within : Bool) (b h : Filed) → IsKept b h → IsKept (stub_if within b) h
+  stub_kept true b h k = grind (arith, stub-sender)
+  stub_kept false b h k = k
 
-  pub Kept-purged : (c : ℕ) (base history : List Filed) → Kept c base history → Kept c (purged base c) history
+  left_kept : (area : Option (List ℕ)) (end c : ℕ) (base history : List Filed) → end ≤ c → Kept c base history → Kept c (left_to area end base) history
+  left_kept area zero c base history h k = k
+  left_kept area (suc end) zero base history h k = absurd (omega arith)
+  left_kept area (suc end) (suc c) [] history h k = absurd k
+  left_kept area (suc end) (suc c) (b ∷ base) [] h k = absurd k
+  left_kept area (suc end) (suc c) (b ∷ base) (o ∷ history) h k = (stub_kept (is_within area b) b o k.0, left_kept area end c base history (omega arith) k.1)
+
+  pub Kept-purged : (range : PurgeRange) (c : ℕ) (base history : List Filed) → Kept c base history → Kept c (purged range base c) history
   unfolding purged
-  Kept-purged c base history k = purged_kept c base history k
+  Kept-purged range c base history k = left_kept range.area (purge_end range c) c base history (end_within range.below c) k
 
 pub count-is : (key : Key) (ms : List Filed) → count key ms ≡ counts.count key_of same_key key ms
 count-is key [] = refl
@@ -206,8 +211,8 @@ module _ (laws : Laws) where
   pub scanning-ok : (s : System) → SystemOk s → SystemOk (scanning_at s)
   scanning-ok s ok = grind (arith, Kept-scanned)
 
-  pub purging-ok : (s : System) → SystemOk s → SystemOk (purging_at s)
-  purging-ok s ok = grind (arith, Kept-purged)
+  pub purging-ok : (range : PurgeRange) (s : System) → SystemOk s → SystemOk (purging_at range s)
+  purging-ok range s ok = grind (arith, Kept-purged laws range)
 
   pub waiting-valid : (s : System) → SystemOk s → (m : Filed) → Among m (drop s.cursor s.base) → IsEcho m.echo
   waiting-valid s ok m h = grind (arith, Among-drop, Kept-waiting)
@@ -260,7 +265,7 @@ module _ (laws : Laws) where
     comes = λ k p s at_k at_s. (let c = changing-ok run (receiver run p) (taking p (length p.messages)) (taking-ok p (ok.packets p (nth-among k p run.packets at_k)) (length p.messages)) ok in
         record { systems = c.systems; packets = c.packets });
     takes = λ k p n at. changing-ok run (receiver run p) (taking p n) (taking-ok p (ok.packets p (nth-among k p run.packets at)) n) ok;
-    purges = λ i e. changing-ok run i purging_at purging-ok ok;
+    purges = λ i range e. changing-ok run i (purging_at range) (purging-ok range) ok;
   })
 
   pub event-made : (run : Run) (event : RunEvent) → RunOk run → AllMade run → AllMade (after_event run event)
@@ -273,7 +278,7 @@ module _ (laws : Laws) where
     ];
     comes = λ k p s at_k at_s. made;
     takes = λ k p n at. made;
-    purges = λ i e. made;
+    purges = λ i range e. made;
   })
 
   pub fresh-ok : (file : LinkFile) → IsFile file → SystemOk (fresh file)

@@ -1,6 +1,7 @@
 -- Lists of exports, and the packets of a run as its exports.
 use Rattle.std.{proofs.{Common.{◌≡◌, ◌≢◌, inl, inr, refl, sym, ap, ◌∙◌, ℕ, ◌+◌, ◌≤◌, arith, List, [], ◌∷◌, ◌++◌, map, Option, Some, None, subst, length, take, drop, ◌<◌}, lemmas.{List.{append_assoc, append-nil, map-append, take-append-drop, take-append-le, take_all, Elements.filter-append}, Bool.{eq-eqb, ne_eqb}}}, specs.Prelude.{Bool, true, false, filter, if◌then◌else◌}}
 use Rattle.echo_addr.specs.declared.address.Address.{Address}
+use Rattle.base_file.specs.declared.range.PurgeRange.{PurgeRange}
 use Rattle.echo_filed.specs.{declared.key.Key.Key, Filed.Filed, Filed.key_of, Filed.same_key}
 use Rattle.model_steps.specs.{declared.packet.Packet.Packet, declared.stamp.Stamp.Stamp, Scanning.scanned, Scanning.copy_to, Scanning.goes_to, Scanning.targets, Stamps.is_stamp, Tossing.sender_of}
 use Rattle.model_run.{specs.{Event.{RunEvent, Posting, Scanning, Delivery, PartDelivery, Purging}, Orderly.{count, sent_count, copies, origin}, Fits.FilesFit, Exports.{Export, event_exports, export_of, exports_after, scan_exports, sent_by, IsSentCopy, exports}, Run.{System, Run, after_event, after_events, change, delivery, nth, part_delivery, scanning, scanning_at, destination, filing, fresh, purging_at, tossing_at, run_of, start, taking}}, proofs.{Lists.{yes_or_no, filter-all, filter-no, filter-none, filter-yes, Among-map_from, any-from, any-to, Among-filter_from, Among-filter_to, Among-drop, nth-among, nth-change, nth-changed, Among-map_to}, Bases.{Kept-cursor, Kept-length, SystemOk, count-is, RunOk, event-ok, start-ok}, TosserPremises.Laws, ScanPackets.{copy-packet, scanned-copy, scanned-count, scanned-origin}}}
@@ -93,8 +94,8 @@ pub tossing-done : (sender : Address) (ms : List Message) (s : System) → Withi
 tossing-done sender [] s within = itself s
 tossing-done sender (q ∷ ms) s within = grind (arith, within, filing-done, joined, tossing-done sender ms)
 
-pub purging-done : (s : System) → SameDone s (purging_at s)
-purging-done s = record { file = refl; done = refl }
+pub purging-done : (range : PurgeRange) (s : System) → SameDone s (purging_at range s)
+purging-done range s = record { file = refl; done = refl }
 
 -- all packets of a system with this file, for its scanned messages: each message is in as many packets to an address as it
 -- goes there; each copy in them is that of a scanned message, and each copy for an address is in a packet to it
@@ -344,7 +345,7 @@ module _ (laws : Laws) where
   event-logged run n all ok logged (Scanning i stamp) = scanning-logged run n all ok logged i stamp (nth i run.systems) refl
   event-logged run n all ok logged (Delivery k) = grind (arith, quiet, delivery-logged)
   event-logged run n all ok logged (PartDelivery k messages) = grind (arith, quiet, part-logged)
-  event-logged run n all ok logged (Purging i) = grind (arith, quiet, change-logged, purging-done)
+  event-logged run n all ok logged (Purging i range) = grind (arith, quiet, change-logged, purging-done range)
 
   events-logged : (events : List RunEvent) (run : Run) (n : ℕ) (all : List Export) → RunOk run → Logged run n all →
       (m : ℕ) × Logged (after_events run events) m (all ++ exports_after run n events)

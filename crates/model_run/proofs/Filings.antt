@@ -1,95 +1,132 @@
--- The base is the history, as the last purge left it.
-use Rattle.std.{proofs.{Common.{◌≡◌, refl, sym, ap, ◌∙◌, ℕ, zero, suc, ◌+◌, ◌≤◌, arith, List, [], ◌∷◌, ◌++◌, length, drop, Option, Some, None, subst, ◌⊎◌, inl, inr}, lemmas.{List.{append_assoc, append-nil}, Bool.{cond-true, cond-false}}}, specs.Prelude.{Bool, true, false, if◌then◌else◌}}
+-- The base is the history, as all purges leave it.
+use Rattle.std.{proofs.{Common.{◌≡◌, refl, sym, ap, ◌∙◌, ℕ, zero, suc, ◌+◌, ◌≤◌, arith, List, [], ◌∷◌, ◌++◌, length, drop, Option, Some, None, subst, ◌⊎◌, inl, inr}, lemmas.{List.{append_assoc, append-nil}, Bool.{cond-true, cond-false}}}, specs.{Prelude.{Bool, true, false, if◌then◌else◌}, List.AllByRecursion}}
 use Rattle.echo_addr.specs.declared.address.Address.{Address}
 use Rattle.echo_packet.specs.Message.{Message}
 use Rattle.echo_links.specs.Links.{LinkFile}
-use Rattle.echo_filed.{specs.{Filed.{Filed, key_of}, Stubs.stub_of, declared.key.Key.Key}, proofs.Keys.stub_of_stub}
+use Rattle.echo_filed.specs.{Filed.{Filed, key_of}, declared.key.Key.Key}
 use Rattle.model_steps.{specs.{declared.{stamp.Stamp.Stamp, packet.Packet.Packet, draft.Draft.Draft}, Posting.{posting, IsAllowed, posted}, Purging.purged, Stamps.is_stamp, Tossing.{tossing, received}}, proofs.{FirstRefusals.refusal_none, Posted.posting_posted, Received.{received_tossing, tossing_received}}}
-use Rattle.model_run.{specs.{Lone.{LoneEvent, LoneSystem, PostHere, PurgeHere, ScanHere, TossHere, after_all_lone, after_lone, lone_at_first, lone_run, with_scanned, with_system}, Run.{System, filing, tossing_at, IsLater}, Orderly.count, Owed.{IsFiledBy, IsFromLink}}, proofs.{Lists.{not_both, yes_or_no}, Areas.link-has_area as area-has}}
+use Rattle.model_run.{specs.{Lone.{LoneEvent, LoneSystem, PostHere, PurgeDone, PurgeHere, ScanHere, TossHere, after_all_lone, after_lone, left_by_all, lone_at_first, lone_run, with_scanned, with_system}, Run.{System, filing, tossing_at, IsLater}, Orderly.count, Owed.{IsFiledBy, IsFromLink}}, proofs.{Lists.{not_both, yes_or_no}, Areas.link-has_area as area-has}}
 use Rattle.model_graph.{specs.Walk.Among, proofs.Members.{Among-append_left, Among-append_cases, Among-append_right}}
-use Rattle.base_file.specs.Base.{is_known}
+use Rattle.base_file.{specs.{Base.is_known, Purging.{left_in, left_to, purge_end}, declared.range.PurgeRange.PurgeRange}, proofs.StubBases.{end_within, left_length}}
 
-pub purged-none : (ms : List Filed) → purged ms 0 ≡ ms
+left-more : (area : Option (List ℕ)) (n : ℕ) (ms more : List Filed) → n ≤ length ms → left_to area n (ms ++ more) ≡ left_to area n ms ++ more
+left-more area zero ms more h = refl
+left-more area (suc n) [] more h = absurd (omega arith)
+left-more area (suc n) (x ∷ ms) more h = ap (λ (ns : List Filed). left_in area x ∷ ns) (left-more area n ms more (omega arith))
+
+waits-same : (area : Option (List ℕ)) (n c : ℕ) (ms : List Filed) → n ≤ c → drop c (left_to area n ms) ≡ drop c ms
+waits-same area zero c ms h = refl
+waits-same area (suc n) zero ms h = absurd (omega arith)
+waits-same area (suc n) (suc c) [] h = refl
+waits-same area (suc n) (suc c) (m ∷ ms) h = waits-same area n c ms (omega arith)
+
+purged-length : (range : PurgeRange) (c : ℕ) (ms : List Filed) → length (purged range ms c) ≡ length ms
 unfolding purged
-purged-none ms = refl
+purged-length range c ms = left_length range.area (purge_end range c) ms
 
-pub purged-empty : (n : ℕ) → purged [] n ≡ []
+purged-more : (range : PurgeRange) (c : ℕ) (ms more : List Filed) → c ≤ length ms → purged range (ms ++ more) c ≡ purged range ms c ++ more
 unfolding purged
-purged-empty n = grind arith
+purged-more range c ms more h = let least = end_within range.below c in left-more range.area (purge_end range c) ms more (omega (arith, least, h))
 
-pub purged-cons : (m : Filed) (ms : List Filed) (n : ℕ) → purged (m ∷ ms) (suc n) ≡ stub_of m ∷ purged ms n
+purged-waiting : (range : PurgeRange) (n c : ℕ) (ms : List Filed) → n ≤ c → drop c (purged range ms n) ≡ drop c ms
 unfolding purged
-purged-cons m ms n = refl
+purged-waiting range n c ms h = let least = end_within range.below n in waits-same range.area (purge_end range n) c ms (omega (arith, least, h))
 
-purged-length : (n : ℕ) (ms : List Filed) → length (purged ms n) ≡ length ms
-purged-length zero ms = ap (λ (ns : List Filed). length ns) (purged-none ms)
-purged-length (suc n) [] = ap (λ (ns : List Filed). length ns) (purged-empty (suc n))
-purged-length (suc n) (m ∷ ms) = omega (arith, purged-length n ms, ap (λ (ns : List Filed). length ns) (purged-cons m ms n))
+-- each purge was of messages before this number
+abbrev pub AreBefore : ℕ → List PurgeDone → Type 0
+AreBefore c purges = AllByRecursion (λ p. p.scanned ≤ c) purges
 
-purged-more : (n : ℕ) (ms : List Filed) (m : Filed) → n ≤ length ms → purged (ms ++ m ∷ []) n ≡ purged ms n ++ m ∷ []
-purged-more zero ms m h = purged-none (ms ++ m ∷ []) ∙ ap (λ (ns : List Filed). ns ++ m ∷ []) (sym (purged-none ms))
-purged-more (suc n) [] m h = absurd (omega arith)
-purged-more (suc n) (x ∷ ms) m h = grind (arith, purged-cons, purged-more n ms m (omega arith))
+before-more : (b c : ℕ) (purges : List PurgeDone) → b ≤ c → AreBefore b purges → AreBefore c purges
+before-more b c [] h all = tt
+before-more b c (p ∷ purges) h all = (omega (arith, h, all.0), before-more b c purges h all.1)
 
-purged-again : (n c : ℕ) (ms : List Filed) → n ≤ c → purged (purged ms n) c ≡ purged ms c
-purged-again zero c ms h = ap (λ (ns : List Filed). purged ns c) (purged-none ms)
-purged-again (suc n) zero ms h = absurd (omega arith)
-purged-again (suc n) (suc c) [] h = ap (λ (ns : List Filed). purged ns (suc c)) (purged-empty (suc n))
-purged-again (suc n) (suc c) (m ∷ ms) h = grind (arith, purged-cons, stub_of_stub, purged-again n c ms (omega arith))
+before-among : (c : ℕ) (purges : List PurgeDone) → AreBefore c purges → (p : PurgeDone) → Among p purges → p.scanned ≤ c
+before-among c [] all p i = absurd i
+before-among c (q ∷ purges) all p (inl e) = let same = ap (λ (x : PurgeDone). x.scanned) e in omega (arith, same, all.0)
+before-among c (q ∷ purges) all p (inr i) = before-among c purges all.1 p i
 
-purged-waiting : (n c : ℕ) (ms : List Filed) → n ≤ c → drop c (purged ms n) ≡ drop c ms
-purged-waiting zero c ms h = ap (λ (ns : List Filed). drop c ns) (purged-none ms)
-purged-waiting (suc n) zero ms h = absurd (omega arith)
-purged-waiting (suc n) (suc c) [] h = ap (λ (ns : List Filed). drop (suc c) ns) (purged-empty (suc n))
-purged-waiting (suc n) (suc c) (m ∷ ms) h = grind (arith, purged-cons, purged-waiting n c ms (omega arith))
+pub left-length-all : (purges : List PurgeDone) (ms : List Filed) → length (left_by_all purges ms) ≡ length ms
+left-length-all [] ms = refl
+left-length-all (p ∷ purges) ms = purged-length p.range p.scanned (left_by_all purges ms) ∙ left-length-all purges ms
 
--- the invariant of a system; `n` messages had been scanned before its last purge
-pub record IsLeft (s : System) (n : ℕ) : Type 0 where
-  pub purged_before : n ≤ s.cursor
+all-more : (purges : List PurgeDone) (ms more : List Filed) → AreBefore (length ms) purges → left_by_all purges (ms ++ more) ≡ left_by_all purges ms ++ more
+all-more [] ms more all = refl
+all-more (p ∷ purges) ms more all =
+    let long = left-length-all purges ms in
+    ap (λ (ns : List Filed). purged p.range ns p.scanned) (all-more purges ms more all.1)
+    ∙ purged-more p.range p.scanned (left_by_all purges ms) more (omega (arith, long, all.0))
+
+all-waiting : (purges : List PurgeDone) (c : ℕ) (ms : List Filed) → AreBefore c purges → drop c (left_by_all purges ms) ≡ drop c ms
+all-waiting [] c ms all = refl
+all-waiting (p ∷ purges) c ms all = purged-waiting p.range p.scanned c (left_by_all purges ms) all.0 ∙ all-waiting purges c ms all.1
+
+-- the invariant of a system after these purges
+pub record IsLeft (s : System) (purges : List PurgeDone) : Type 0 where
+  pub scanned : AreBefore s.cursor purges
   pub within : s.cursor ≤ length s.history
-  pub base : s.base ≡ purged s.history n
+  pub base : s.base ≡ left_by_all purges s.history
 
 length-more : (ms : List Filed) (m : Filed) → length (ms ++ m ∷ []) ≡ length ms + 1
 length-more [] m = refl
 length-more (n ∷ ms) m = omega (arith, length-more ms m)
 
-filing-left : (s : System) (n : ℕ) (o : Option Filed) → IsLeft s n → IsLeft (filing s o) n
-filing-left s n o h1 = grind (arith, length-more, purged-more)
+filing-left : (s : System) (purges : List PurgeDone) (o : Option Filed) → IsLeft s purges → IsLeft (filing s o) purges
+filing-left s purges None left = left
+filing-left s purges (Some m) left = record {
+  scanned = left.scanned;
+  within = let long = length-more s.history m in let within = left.within in omega (arith, long, within);
+  base = ap (λ (ns : List Filed). ns ++ m ∷ []) left.base ∙ sym (all-more purges s.history (m ∷ []) (before-more s.cursor (length s.history) purges left.within left.scanned));
+}
 
-tossing-left : (sender : Address) (ms : List Message) (s : System) (n : ℕ) → IsLeft s n → IsLeft (tossing_at sender ms s) n
-tossing-left sender [] s n left = left
-tossing-left sender (q ∷ ms) s n left = grind (arith, filing-left, tossing-left sender ms (filing s (tossing s.file s.base sender q)) n (filing-left s n (tossing s.file s.base sender q) left))
+tossing-left : (sender : Address) (ms : List Message) (s : System) (purges : List PurgeDone) → IsLeft s purges → IsLeft (tossing_at sender ms s) purges
+tossing-left sender [] s purges left = left
+tossing-left sender (q ∷ ms) s purges left =
+    tossing-left sender ms (filing s (tossing s.file s.base sender q)) purges (filing-left s purges (tossing s.file s.base sender q) left)
 
-base-length : (s : System) (n : ℕ) → IsLeft s n → length s.base ≡ length s.history
-base-length s n left = ap (λ (ms : List Filed). length ms) left.base ∙ purged-length n s.history
+base-length : (s : System) (purges : List PurgeDone) → IsLeft s purges → length s.base ≡ length s.history
+base-length s purges left = ap (λ (ms : List Filed). length ms) left.base ∙ left-length-all purges s.history
 
 abbrev pub IsLoneLeft : LoneSystem → Type 0
-IsLoneLeft s = IsLeft s.system s.purged_to
+IsLoneLeft s = IsLeft s.system s.purges
 
 scan-left : (s : LoneSystem) (stamp : Stamp) (b : Bool) → IsLoneLeft s → IsLoneLeft (if b then with_scanned stamp s else s)
-scan-left s stamp b h1 = grind (arith, base-length)
+scan-left s stamp true left =
+    let long = base-length s.system s.purges left in
+    let within = left.within in
+    record { scanned = before-more s.system.cursor (length s.system.base) s.purges (omega (arith, long, within)) left.scanned; within = omega (arith, long); base = left.base }
+scan-left s stamp false left = left
 
 pub event-left : (s : LoneSystem) (event : LoneEvent) → IsLoneLeft s → IsLoneLeft (after_lone s event)
-event-left s (PostHere tag draft serial stamp) left = filing-left s.system s.purged_to (posting s.system.file s.system.base tag draft serial stamp) left
-event-left s (TossHere sender messages) left = tossing-left sender messages s.system s.purged_to left
+event-left s (PostHere tag draft serial stamp) left = filing-left s.system s.purges (posting s.system.file s.system.base tag draft serial stamp) left
+event-left s (TossHere sender messages) left = tossing-left sender messages s.system s.purges left
 event-left s (ScanHere stamp) left = scan-left s stamp (is_stamp stamp) left
-event-left s PurgeHere left = grind (arith, purged-again)
+event-left s (PurgeHere range) left = record {
+  scanned = (omega arith, left.scanned);
+  within = left.within;
+  base = ap (λ (ns : List Filed). purged range ns s.system.cursor) left.base;
+}
 
 pub events-left : (events : List LoneEvent) (s : LoneSystem) → IsLoneLeft s → IsLoneLeft (after_all_lone s events)
 events-left [] s left = left
 events-left (event ∷ later) s left = events-left later (after_lone s event) (event-left s event left)
 
 pub first-left : (file : LinkFile) → IsLoneLeft (lone_at_first file)
-first-left file = record { purged_before = omega arith; within = omega arith; base = sym (purged-none []) }
+first-left file = record { scanned = tt; within = omega arith; base = refl }
 
 pub run-left : (file : LinkFile) (events : List LoneEvent) → IsLoneLeft (lone_run file events)
 run-left file events = events-left events (lone_at_first file) (first-left file)
 
 pub left-waiting : (s : LoneSystem) → IsLoneLeft s → drop s.system.cursor s.system.base ≡ drop s.system.cursor s.system.history
-left-waiting s left = grind (arith, purged-waiting)
+left-waiting s left = ap (λ (ns : List Filed). drop s.system.cursor ns) left.base ∙ all-waiting s.purges s.system.cursor s.system.history left.scanned
 
 pub left-length : (s : LoneSystem) → IsLoneLeft s → length s.system.base ≡ length s.system.history
-left-length s left = base-length s.system s.purged_to left
+left-length s left = base-length s.system s.purges left
+
+-- the base with more messages behind the history is the base and these
+pub left-and-more : (s : LoneSystem) (more : List Filed) → IsLoneLeft s → left_by_all s.purges (s.system.history ++ more) ≡ s.system.base ++ more
+left-and-more s more left =
+    all-more s.purges s.system.history more (before-more s.system.cursor (length s.system.history) s.purges left.within left.scanned)
+    ∙ ap (λ (ns : List Filed). ns ++ more) (sym left.base)
 
 -- Events only add to a system; this needs no premise.
 
@@ -147,7 +184,7 @@ event-lasts s (PostHere tag draft serial stamp) left =
     quiet-lasts s (filing s.system o) (filing-grows s.system o)
 event-lasts s (TossHere sender messages) left = quiet-lasts s (tossing_at sender messages s.system) (tossing-grows sender messages s.system)
 event-lasts s (ScanHere stamp) left = scan-lasts s stamp (is_stamp stamp) left
-event-lasts s PurgeHere left = grind (arith, append-nil)
+event-lasts s (PurgeHere range) left = grind (arith, append-nil)
 
 pub events-last : (events : List LoneEvent) (s : LoneSystem) → IsLoneLeft s → Lasts s (after_all_lone s events)
 events-last [] s left = Lasts-itself s
@@ -171,12 +208,61 @@ run-file file events = (events-last events (lone_at_first file) (first-left file
 pub filed-later : (s z : System) → IsLater s z → (m : Filed) → Among m s.history → Among m z.history
 filed-later s z later m h = grind (arith, Among-append_left)
 
-event-purged : (s : LoneSystem) (event : LoneEvent) → IsLoneLeft s → s.purged_to ≤ (after_lone s event).purged_to
-event-purged s event h1 = grind arith
+-- purges since, each called by an event
+pub record ArePurgedSince (events : List LoneEvent) (s z : LoneSystem) : Type 0 where
+  pub since : List PurgeDone
+  pub are : z.purges ≡ since ++ s.purges
+  pub called : (p : PurgeDone) → Among p since → Among (PurgeHere p.range) events
 
-pub events-purged : (events : List LoneEvent) (s : LoneSystem) → IsLoneLeft s → s.purged_to ≤ (after_all_lone s events).purged_to
-events-purged [] s left = omega arith
-events-purged (event ∷ later) s left = grind (arith, event-purged, event-left, events-purged later (after_lone s event) (event-left s event left))
+none-since : (s z : LoneSystem) (event : LoneEvent) → z.purges ≡ s.purges → ArePurgedSince (event ∷ []) s z
+none-since s z event same = record { since = []; are = same; called = λ p i. absurd i }
+
+scan-since : (s : LoneSystem) (stamp : Stamp) (b : Bool) → (if b then with_scanned stamp s else s).purges ≡ s.purges
+scan-since s stamp true = refl
+scan-since s stamp false = refl
+
+event-since : (s : LoneSystem) (event : LoneEvent) → ArePurgedSince (event ∷ []) s (after_lone s event)
+event-since s (PostHere tag draft serial stamp) = none-since s (after_lone s (PostHere tag draft serial stamp)) (PostHere tag draft serial stamp) refl
+event-since s (TossHere sender messages) = none-since s (after_lone s (TossHere sender messages)) (TossHere sender messages) refl
+event-since s (ScanHere stamp) = none-since s (after_lone s (ScanHere stamp)) (ScanHere stamp) (scan-since s stamp (is_stamp stamp))
+event-since s (PurgeHere range) = record {
+  since = record { range = range; scanned = s.system.cursor } ∷ [];
+  are = refl;
+  called = λ p i. elim i [ inl e ↦ inl (ap (λ (x : PurgeDone). PurgeHere x.range) e) | inr none ↦ absurd none ];
+}
+
+pub purged-since : (events : List LoneEvent) (s : LoneSystem) → ArePurgedSince events s (after_all_lone s events)
+purged-since [] s = record { since = []; are = refl; called = λ p i. absurd i }
+purged-since (event ∷ later) s =
+    let one = event-since s event in
+    let more = purged-since later (after_lone s event) in
+    record {
+      since = more.since ++ one.since;
+      are = more.are ∙ ap (λ (ps : List PurgeDone). more.since ++ ps) one.are ∙ sym (append_assoc more.since one.since s.purges);
+      called = λ p i. elim (Among-append_cases p more.since one.since i) [
+        | inl j ↦ inr (more.called p j)
+        | inr j ↦ elim (one.called p j) [ inl e ↦ inl e | inr none ↦ absurd none ]
+      ];
+    }
+
+pub purges-called : (file : LinkFile) (events : List LoneEvent) (p : PurgeDone) → Among p (lone_run file events).purges → Among (PurgeHere p.range) events
+purges-called file events p i =
+    let since = purged-since events (lone_at_first file) in
+    let all : (lone_run file events).purges ≡ since.since = since.are ∙ append-nil since.since in
+    since.called p (subst (λ (ps : List PurgeDone). Among p ps) all i)
+
+pub purge-noted : (file : LinkFile) (earlier later : List LoneEvent) (range : PurgeRange)
+    → Among (record { range = range; scanned = (lone_run file earlier).system.cursor }) (lone_run file (earlier ++ PurgeHere range ∷ later)).purges
+purge-noted file earlier later range =
+    let s = lone_run file earlier in
+    let z = after_lone s (PurgeHere range) in
+    let p : PurgeDone = record { range = range; scanned = s.system.cursor } in
+    let since = purged-since later z in
+    let all = ap (λ (x : LoneSystem). x.purges) (run-append file earlier (PurgeHere range ∷ later)) in
+    subst (λ (ps : List PurgeDone). Among p ps) (sym (all ∙ since.are)) (Among-append_right p since.since z.purges (inl refl))
+
+pub purge-scanned : (file : LinkFile) (events : List LoneEvent) (p : PurgeDone) → Among p (lone_run file events).purges → p.scanned ≤ (lone_run file events).system.cursor
+purge-scanned file events = before-among (lone_run file events).system.cursor (lone_run file events).purges (run-left file events).scanned
 
 -- Every filed message came from somewhere, and every due message is filed.
 
@@ -220,7 +306,7 @@ event-from s (PostHere tag draft serial stamp) m h =
     ]
 event-from s (TossHere sender messages) m h = tossing-from sender messages s.system.base s.system m h
 event-from s (ScanHere stamp) m h = grind arith
-event-from s PurgeHere m h = inl h
+event-from s (PurgeHere range) m h = inl h
 
 -- the event that filed a message, and the events before it
 abbrev pub IsFiledAmong : LoneSystem → LinkFile → List LoneEvent → Filed → Type 0

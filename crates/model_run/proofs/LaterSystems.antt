@@ -4,7 +4,7 @@ use Rattle.echo_addr.specs.declared.address.Address.{Address}
 use Rattle.echo_packet.specs.Message.{Message}
 use Rattle.model_steps.specs.{declared.packet.Packet.Packet, Posting.posting, Tossing.sender_of, Tossing.tossing}
 use Rattle.echo_links.specs.Links.{LinkFile}
-use Rattle.echo_filed.specs.Filed.{Filed}
+use Rattle.{base_file.specs.declared.range.PurgeRange.PurgeRange, echo_filed.specs.Filed.Filed}
 use Rattle.model_run.{specs.{Run.{IsLater, System, Run, after_event, after_events, change, filing, nth, posting_at, purging_at, receiver, run_of, scanning_at, start, taking, tossing_at}, Event.RunEvent}, proofs.{EventKinds.each-kind, TosserPremises.Laws, Lists.{nth-among, nth-changed}, Bases.{Kept, Kept-cursor, Kept-length}, EachSystem.{AllKept, event-kept, run-kept}, HarmSteps.after-append}}
 
 pub later-itself : (s : System) → IsLater s s
@@ -20,8 +20,8 @@ filing-later s (Some m) = record { file = refl; cursor = omega arith; filed = (m
 pub scanning-later : (s : System) → Kept s.cursor s.base s.history → IsLater s (scanning_at s)
 scanning-later s kept = grind (arith, Kept-cursor, Kept-length, append-nil)
 
-pub purging-later : (s : System) → IsLater s (purging_at s)
-purging-later s = record { file = refl; cursor = omega arith; filed = ([], sym (append-nil s.history)) }
+pub purging-later : (range : PurgeRange) (s : System) → IsLater s (purging_at range s)
+purging-later range s = record { file = refl; cursor = omega arith; filed = ([], sym (append-nil s.history)) }
 
 tossing-later : (sender : Address) (ms : List Message) (s : System) → IsLater s (tossing_at sender ms s)
 tossing-later sender [] s = later-itself s
@@ -54,7 +54,7 @@ event-last run kept event = each-kind run (λ r. Lasts run.systems r.systems) ev
   scans = λ i stamp s at. change-last i scanning_at run.systems (λ t e. scanning-later t (kept t (nth-among i t run.systems e)));
   comes = λ k p s at_k at_s. change-last (receiver run p) (taking p (length p.messages)) run.systems (λ t _. taking-later p (length p.messages) t);
   takes = λ k p n at. change-last (receiver run p) (taking p n) run.systems (λ t _. taking-later p n t);
-  purges = λ i e. change-last i purging_at run.systems (λ s _. purging-later s);
+  purges = λ i range e. change-last i (purging_at range) run.systems (λ s _. purging-later range s);
 })
 
 pub events-last : Laws → (events : List RunEvent) (run : Run) → AllKept run → Lasts run.systems (after_events run events).systems

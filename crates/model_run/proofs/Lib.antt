@@ -50,3 +50,6 @@ pub mod NetExamples
 mod TidyExamples
 mod VainExamples
 mod RepairExamples
+pub mod Flows
+pub mod OneSided
+pub mod Apart

@@ -142,7 +142,7 @@ module _ (laws : Laws) where
         let t = taking-traced run traced made p (nth-among k p run.packets at_k) (length p.messages) in
         record { systems = t.systems; packets = t.packets };
     takes = λ k p n at. taking-traced run traced made p (nth-among k p run.packets at) n;
-    purges = λ i e. changing-traced run traced i purging_at (λ s m j. j) (λ s _ _ m j. inl j);
+    purges = λ i range e. changing-traced run traced i (purging_at range) (λ s m j. j) (λ s _ _ m j. inl j);
   })
 
   events-traced : (events : List RunEvent) (run : Run) → RunOk run → AllMade run → Traced run → Traced (after_events run events)

@@ -30,7 +30,10 @@ module _ (laws : Laws) where
   tosses-ok sender (q ∷ ms) s ok plain = grind (arith, tossed-ok, tosses-ok sender ms)
 
   pub event-ok : (s : LoneSystem) (event : LoneEvent) → IsOfPackets event → SystemOk s.system → SystemOk (after_lone s event).system
-  event-ok s h2 plain ok = grind (arith, posting-ok, tosses-ok, scanning-ok, purging-ok)
+  event-ok s (PostHere tag draft serial stamp) plain ok = grind (arith, posting-ok)
+  event-ok s (TossHere sender messages) plain ok = grind (arith, tosses-ok)
+  event-ok s (ScanHere stamp) plain ok = grind (arith, scanning-ok)
+  event-ok s (PurgeHere range) plain ok = purging-ok laws range s.system ok
 
   events-ok : (events : List LoneEvent) (s : LoneSystem) → AreOfPackets events → SystemOk s.system → SystemOk (after_all_lone s events).system
   events-ok [] s plain ok = ok
@@ -218,9 +221,9 @@ module _ (laws : Laws) where
       let next = tossing_at sender messages s.system in
       quiet-sent s next (grown-done s.system next (tossing-grows sender messages s.system) (within s.system ok)) sofar
   event-sent s (ScanHere stamp) ok sofar = grind (arith, scan-sent)
-  event-sent s PurgeHere ok sofar = record {
+  event-sent s (PurgeHere range) ok sofar = record {
     counts_are = sofar.counts_are;
-    packets = λ p h. own-later s.system (after_lone s PurgeHere).system p refl (λ m i. i) (sofar.packets p h);
+    packets = λ p h. own-later s.system (after_lone s (PurgeHere range)).system p refl (λ m i. i) (sofar.packets p h);
   }
 
   events-sent : (events : List LoneEvent) (s : LoneSystem) → AreOfPackets events → SystemOk s.system → IsSentSoFar s → IsSentSoFar (after_all_lone s events)

@@ -65,7 +65,7 @@ event-once run event at = each-kind run IsDeliveredOnce event (record {
     ];
   };
   takes = λ k p n at_k. record { once = at.once; there = at.there };
-  purges = λ i e. record { once = at.once; there = at.there };
+  purges = λ i range e. record { once = at.once; there = at.there };
 })
 
 pub run_delivered : (files : List LinkFile) (events : List RunEvent) → IsDeliveredOnce (run_of files events)

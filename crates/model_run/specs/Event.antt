@@ -1,5 +1,6 @@
 -- Events of a net of tossers.
 use Rattle.std.specs.Prelude.{ℕ, List}
+use Rattle.base_file.specs.{Purging.whole, declared.range.PurgeRange.PurgeRange}
 use Rattle.model_steps.specs.declared.{draft.Draft.Draft, stamp.Stamp.Stamp}
 use Rattle.model_run.specs.declared.event.Event.{Event, TheVariants.Deliver, TheVariants.Post, TheVariants.Purge, TheVariants.Scan}
 
@@ -10,11 +11,11 @@ pub data RunEvent : Type 0 where
   Scanning : (system : ℕ) (stamp : Stamp) → RunEvent
   Delivery : (packet : ℕ) → RunEvent
   PartDelivery : (packet messages : ℕ) → RunEvent
-  Purging : (system : ℕ) → RunEvent
+  Purging : (system : ℕ) (range : PurgeRange) → RunEvent
 
--- An event of the program as an event of a run.
+-- An event of the program as an event of a run: its purge reaches all scanned messages.
 abbrev pub run_event : Event → RunEvent
 run_event (Post system tag draft serial stamp) = Posting system tag draft serial stamp
 run_event (Scan system stamp) = Scanning system stamp
 run_event (Deliver packet) = Delivery packet
-run_event (Purge system) = Purging system
+run_event (Purge system) = Purging system whole

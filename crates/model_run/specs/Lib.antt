@@ -21,3 +21,4 @@ pub mod Harms
 pub mod Grave
 pub mod LawsOfRuns
 pub mod Postings
+pub mod Losses

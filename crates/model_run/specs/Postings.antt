@@ -10,7 +10,7 @@ IsMove (Scanning system stamp) = Unit {0}
 IsMove (Delivery packet) = Unit {0}
 IsMove (Posting system tag draft serial stamp) = ⊥
 IsMove (PartDelivery packet messages) = ⊥
-IsMove (Purging system) = ⊥
+IsMove (Purging system range) = ⊥
 
 -- A message to all, with an empty body.
 abbrev pub trial_draft : Draft

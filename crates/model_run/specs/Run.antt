@@ -4,7 +4,7 @@ use Rattle.echo_addr.specs.declared.address.Address.{Address}
 use Rattle.echo_packet.specs.Message.{Message}
 use Rattle.model_steps.specs.{declared.packet.Packet.Packet, declared.stamp.Stamp.Stamp, declared.draft.Draft.Draft, SystemState.SystemState, Posting.posting, Tossing.tossing, Tossing.sender_of, Scanning.scanned, Stamps.is_stamp, Purging.purged}
 use Rattle.echo_links.specs.Links.{LinkFile, same_address}
-use Rattle.echo_filed.specs.Filed.{Filed}
+use Rattle.{base_file.specs.declared.range.PurgeRange.PurgeRange, echo_filed.specs.Filed.Filed}
 use Rattle.model_run.specs.Event.{RunEvent, Posting, Scanning, Delivery, PartDelivery, Purging}
 
 -- A system: its link file, its base and cursor, and its history: the messages of its base as they were filed.
@@ -53,9 +53,9 @@ tossing_at sender (packed ∷ later) s = tossing_at sender later (filing s (toss
 abbrev pub scanning_at : System → System
 scanning_at s = record { file = s.file; base = s.base; cursor = length s.base; history = s.history }
 
--- A purge of a system: messages before the cursor become stubs.
-abbrev pub purging_at : System → System
-purging_at s = record { file = s.file; base = purged s.base s.cursor; cursor = s.cursor; history = s.history }
+-- A purge of a system: messages in its range, before the cursor, become stubs.
+abbrev pub purging_at : PurgeRange → System → System
+purging_at range s = record { file = s.file; base = purged range s.base s.cursor; cursor = s.cursor; history = s.history }
 
 -- The item with this index.
 abbrev pub nth : {X : Type 0} → ℕ → List X → Option X
@@ -126,7 +126,7 @@ after_event run (Posting i tag draft serial stamp) = changing run i (posting_at 
 after_event run (Scanning i stamp) = scanning run i stamp (nth i run.systems)
 after_event run (Delivery k) = delivery run k (nth k run.packets)
 after_event run (PartDelivery k messages) = part_delivery run messages (nth k run.packets)
-after_event run (Purging i) = changing run i purging_at
+after_event run (Purging i range) = changing run i (purging_at range)
 
 -- The effect of events in order.
 abbrev pub after_events : Run → List RunEvent → Run

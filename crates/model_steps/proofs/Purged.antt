@@ -1,8 +1,9 @@
+-- A purge keeps the rules of a base.
 use Rattle.std.proofs.Common.{ℕ, List}
+use Rattle.base_file.{specs.{Base.IsBase, Purging.purge_end, declared.range.PurgeRange.PurgeRange}, proofs.StubBases.left_keeps}
 use Rattle.echo_filed.specs.Filed.{Filed}
-use Rattle.base_file.{specs.Base.IsBase, proofs.StubBases.stubs_keep}
 use Rattle.model_steps.specs.Purging.{purged}
 
-pub purge_keeps : (base : List Filed) (cursor : ℕ) → IsBase base cursor → IsBase (purged base cursor) cursor
+pub purge_keeps : (range : PurgeRange) (base : List Filed) (cursor : ℕ) → IsBase base cursor → IsBase (purged range base cursor) cursor
 unfolding purged
-purge_keeps base cursor h = stubs_keep base cursor h
+purge_keeps range base cursor h = left_keeps range.area (purge_end range cursor) base cursor h

@@ -1,11 +1,12 @@
--- Purging: of the text of a scanned message, only its id remains.
-use Rattle.std.specs.Prelude.{ℕ, not, List, ◌++◌, map, take, drop, count_by}
-use Rattle.echo_filed.specs.{Filed.Filed, Stubs.is_stub, Stubs.stub_of}
+-- Purging: of the text of a scanned message in the range of a purge, only its id remains.
+use Rattle.std.specs.Prelude.{ℕ, List}
+use Rattle.base_file.specs.{Purging.{changed_by, left_by}, declared.range.PurgeRange.PurgeRange}
+use Rattle.echo_filed.specs.Filed.{Filed}
 
--- The base after a purge: the stubs of the messages before the cursor, then the others.
-unfoldable pub purged : List Filed → ℕ → List Filed
-purged base cursor = map stub_of (take cursor base) ++ drop cursor base
+-- The base after a purge: stubs of the messages in its range, which are before the cursor, and the others.
+unfoldable pub purged : PurgeRange → List Filed → ℕ → List Filed
+purged range base cursor = left_by range base cursor
 
 -- The number of messages that a purge changes.
-unfoldable pub changed : List Filed → ℕ → ℕ
-changed base cursor = count_by (λ m. not (is_stub m)) (take cursor base)
+unfoldable pub changed : PurgeRange → List Filed → ℕ → ℕ
+changed range base cursor = changed_by range base cursor

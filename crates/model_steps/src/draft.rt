@@ -1,3 +1,5 @@
+//! A message that is to be posted.
+
 use echo_addr::Items;
 
 /// A message to be posted: names, subject, the id of the message that it replies to or no bytes, and a body

@@ -1,3 +1,5 @@
+//! The faults of postings, B1 to B7, and of scans, S1 and S2.
+
 ghost use Rattle.std.specs.Prelude.{◌≡◌};
 ghost use Rattle.model_steps.specs.declared.fault.PostFault.TheVariants as post;
 ghost use Rattle.model_steps.specs.declared.fault.ScanFault.TheVariants as scan;

@@ -7,7 +7,7 @@ ghost use Rattle.echo_text.specs.{Echo.IsEcho, Echo.msgid_of, Refusal.text_refus
 ghost use Rattle.model_steps.specs.{Posting.IsAllowed, Posting.IsFirstRefusal, Posting.has_id, Posting.post_refusal, Posting.posting, Scanning.copy_to, Scanning.exported, Scanning.scanned, Purging.purged, Tossing.IsOutcome, Tossing.IsToBeFiled, Tossing.received, Tossing.toss_outcome, Tossing.tossing, declared.draft.Draft.Draft, declared.fault.PostFault.PostFault, declared.outcome.Outcome.Outcome, declared.stamp.Stamp.Stamp};
 ghost use Rattle.echo_links.specs.Links.{IsFile, LinkFile, has_area};
 ghost use Rattle.echo_filed.specs.Filed.{Filed, HasSmallSender, key_of};
-ghost use Rattle.base_file.specs.Base.{IsBase};
+ghost use Rattle.base_file.specs.{Base.IsBase, declared.range.PurgeRange.PurgeRange};
 
 /// The exported copy of a message is echomail, its text is read back, and it has the key of the message.
 pub fn copy_laws()
@@ -65,5 +65,5 @@ pub fn base_laws()
         IsFile file → IsBase base cursor → posting file base tag draft serial stamp ≡ Some m → IsBase (base ++ m ∷ []) cursor }
     ensures tossed { (most : ℕ) (file : LinkFile) (base : List Filed) (cursor : ℕ) (sender : Address) (packed : Message) (m : Filed) →
         HasSmallSender (Some sender) → IsMessage most packed → IsBase base cursor → tossing file base sender packed ≡ Some m → IsBase (base ++ m ∷ []) cursor }
-    ensures purged { (base : List Filed) (cursor : ℕ) → IsBase base cursor → IsBase (purged base cursor) cursor }
+    ensures purged { (range : PurgeRange) (base : List Filed) (cursor : ℕ) → IsBase base cursor → IsBase (purged range base cursor) cursor }
 {}

@@ -1,3 +1,5 @@
+//! Stamps in the form of a DateTime (FTS-0001).
+
 ghost use Rattle.std.specs.{Prelude.◌≡◌, Prelude.◌+◌, Prelude.◌*◌, Prelude.◌/◌, Prelude.◌%◌, Prelude.◌-◌, Prelude.true, Int.is_in_range};
 ghost use Rattle.model_steps.specs.Stamps.{date_of, is_stamp};
 

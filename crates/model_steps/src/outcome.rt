@@ -1,3 +1,5 @@
+//! What becomes of a received message.
+
 /// The outcome of a tossed message: the first of these that applies.
 #[derive(Clone, Copy, Debug, PartialEq, Eq)]
 pub enum Outcome {

@@ -1,3 +1,5 @@
+//! A packet in memory, and its bytes.
+
 ghost use Rattle.std.specs.Prelude.{◌≡◌, ◌+◌, ◌<◌, length, IfOk, OnErr};
 ghost use Rattle.echo_packet.specs.{Header.header_bytes, Message.message_bytes, Packet.PacketOf, Packet.packet_bytes};
 

@@ -1,3 +1,5 @@
+//! The ids that an answer may name.
+
 ghost use Rattle.std.specs.{Prelude.{◌≡◌, ◌≤◌, false, not, length, reverse, take_while}, Char.is_ascii_hexdigit, List.list_all};
 ghost use Rattle.echo_addr.specs.Entries.{is_blank};
 ghost use Rattle.echo_text.specs.Ids.{ends_quoted, is_bare_origin, is_gap, is_line_byte, is_quoted_origin, without_gap};

@@ -6,6 +6,7 @@ ghost use Rattle.{base_store.specs.Store.HasStoreCause, station_bases.specs.InFi
 use crate::entry_adding::check_room;
 use crate::held::Held;
 use crate::saving::write_file;
+use base_file::PurgeRange;
 use base_store::{PurgedStore, Store, StoreError, note_look};
 use disk_io::Disk;
 use echo_addr::Items;
@@ -194,10 +195,10 @@ impl<'a, D: Disk, S: BuildHasher + Copy + Drop> Store for FileStore<'a, D, S> {
 }
 
 impl<'a, D: Disk, S: BuildHasher + Copy + Drop> PurgedStore for FileStore<'a, D, S> {
-    fn purge(&mut self) -> Result<u64, StoreError> {
+    fn purge(&mut self, range: &PurgeRange) -> Result<u64, StoreError> {
         self.bring_in()?;
         match &mut self.held {
-            Held::Whole(base) => Ok(base.purge()?),
+            Held::Whole(base) => Ok(base.purge(range)?),
             Held::Apart(_) => Err(StoreError::Damaged),
         }
     }

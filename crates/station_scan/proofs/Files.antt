@@ -4,8 +4,8 @@ use Rattle.{std.{proofs.lemmas.List.Elements.{All-contains, All-map}, specs.Prel
 use Rattle.{disk_io.specs.Disk.{DiskState, Files}, disk_atomic.specs.{ListStaged.IsNameByte, Naming.{HasItsPath, IsWholeAtEither}}}
 use Rattle.disk_atomic.{specs.{Outgoing.{IsAtStaging, IsFilled, IsFree, SendsBytes}, declared.outgoing.Outgoing.Outgoing}, proofs.Packets.nobody}
 use Rattle.{echo_addr.specs.declared.address.Address.Address, model_steps.specs.{PacketFiles.PacketFile, Scanning.header_to}}
-use Rattle.{cmd_store.specs.PacketLines.{file_sent, packet_name}, echo_toss.specs.Counts.{bytes_for, link_set}}
-use Rattle.echo_toss.{specs.Exports.{OutgoingMessage as Sent, nowhere, packet_out}, proofs.Counts.scanned_to}
+use Rattle.{cmd_store.specs.PacketLines.{file_sent, packet_name}, echo_steps.specs.Counts.{bytes_for, link_set}}
+use Rattle.echo_steps.{specs.Exports.{OutgoingMessage as Sent, nowhere, packet_out}, proofs.Counts.scanned_to}
 use Rattle.station_scan.specs.Sending.{AreRoutes, HasBytes, IsAtItsPath, IsFreeAt, IsOfPacket, IsOffOwn, IsStagingGone, IsStagingOfPacket, IsStagingOn, IsWhole, IsWholeAlone, file_paths, for_address}
 use Rattle.station_scan.specs.Passing.{AreFor, FitTo, IsFront, IsGrowingTo, IsRouted, IsStagingTo, IsTakenFor, all_sent, is_made, links_to}
 use Rattle.station_scan.specs.{Fitting.{AreFit, AreTaken}, Publishing.{IsFreeIn, IsGoingAt, IsOnDisk, IsStagingOnDisk, ended_in, no_files}, Scanning.packets_in}

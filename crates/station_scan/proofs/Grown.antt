@@ -3,8 +3,8 @@ use Rattle.std.proofs.Common.{◌≡◌, inl, inr, ◌∙◌, ◌<◌, ℕ, true
 use Rattle.std.{proofs.lemmas.{Bool.{cases_Bool, false_from_ne_true}, List.{append-nil, Elements.Contains-get_or}}, specs.Prelude.{All, Contains}}
 use Rattle.{disk_io.specs.{Disk.{DiskState, Honestly, IsIn, bytes_in}, Fixed.AreBytes}, disk_atomic.specs.Changes.{CanGrow, ChangesOnly}}
 use Rattle.disk_atomic.{specs.{Outgoing.{IsAtStaging, IsLonger}, declared.outgoing.Outgoing.Outgoing}, proofs.Packets.nobody}
-use Rattle.{echo_addr.specs.declared.address.Address.Address, echo_packet.specs.Message.messages_bytes, echo_toss.specs.Counts.{copies_out, link_set}}
-use Rattle.echo_toss.{specs.Exports.OutgoingMessage as Sent, proofs.Counts.{copies_append, messages_append}}
+use Rattle.{echo_addr.specs.declared.address.Address.Address, echo_packet.specs.Message.messages_bytes, echo_steps.specs.Counts.{copies_out, link_set}}
+use Rattle.echo_steps.{specs.Exports.OutgoingMessage as Sent, proofs.Counts.{copies_append, messages_append}}
 use Rattle.station_scan.specs.Passing.{AreFor, AreGrowing, IsAppending, IsGrowingTo, IsRouted, IsStagingFor, header_for, is_begun, is_made, links_to, path_to, staging_to}
 use Rattle.station_scan.{specs.{Publishing.{AreOpen, IsWritten}, declared.sending.Sending.Sending}, proofs.Lists.{of_each, to_each}}
 use Rattle.station_scan.proofs.Routes.{all_for, begun_if, begun_is, begun_more, for_all, made_before, more_made, no_copies, off_trial, path_off, same_copies, some_for, staging_at, staging_of, staging_off, staging_wider}

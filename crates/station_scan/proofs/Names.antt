@@ -4,7 +4,7 @@ use Rattle.{std.proofs.lemmas.{Bool.eqb-false, Fmt.decimal_injective, List.Eleme
 use Rattle.std.{proofs.lemmas.List.{append-nil, append_cancel_left, append_cancel_right, get_or-append-add}, specs.Prelude.{All, AllPairs}}
 use Rattle.{std.specs.List.{AllByRecursion, flat_map}, echo_addr.{specs.declared.address.Address.Address, proofs.Decimals.{IsDigit, digits_of_decimal}}}
 use Rattle.echo_filed.{specs.Sets.{address_before, address_set}, proofs.{Choices.all_weaker, Orders.address_order, Sets.{ascending_pairs, set_ascending}}}
-use Rattle.{echo_links.specs.Links.{LinkFile, links_of}, echo_toss.specs.Counts.link_set, cmd_store.specs.PacketLines.packet_name}
+use Rattle.{echo_links.specs.Links.{LinkFile, links_of}, echo_steps.specs.Counts.link_set, cmd_store.specs.PacketLines.packet_name}
 use Rattle.{station_scan.specs.Sending.IsSized, disk_io.specs.Disk.IsIn, disk_atomic.specs.{StagingPaths.staging_path, ListStaged.IsNameByte}}
 
 -- the end of a staging path

@@ -6,8 +6,8 @@ use Rattle.{std.specs.Prelude.{All, None, Ok, OnOk, Result, nat_lt}, base_file.s
 use Rattle.{disk_io.specs.declared.disk_error.DiskError.DiskError, disk_atomic.specs.Outgoing.{IsAtStaging, IsFree, IsStagingGone}}
 use Rattle.disk_atomic.{specs.{declared.outgoing.Outgoing.Outgoing, StagingPaths.staging_path}, proofs.Changes.{only_nothing, then_only, wider}}
 use Rattle.{cmd_store.specs.PacketLines.packet_name, echo_addr.specs.declared.address.Address.Address}
-use Rattle.echo_toss.specs.Counts.{Group, IsGroupFrom, copies_out, counted_to, counted_with, has_messages, link_set}
-use Rattle.echo_toss.{specs.{declared.counting.CountedPacket.CountedPacket, Exports.{OutgoingMessage as Sent, sent_of}}, proofs.Counts.{copies_append, more_in}}
+use Rattle.echo_steps.specs.Counts.{Group, IsGroupFrom, copies_out, counted_to, counted_with, has_messages, link_set}
+use Rattle.echo_steps.{specs.{declared.counting.CountedPacket.CountedPacket, Exports.{OutgoingMessage as Sent, sent_of}}, proofs.Counts.{copies_append, more_in}}
 use Rattle.{base_store.{specs.Store.{LooksOn, StoreState}, proofs.Runs.same_twice}, station.specs.Beneath.IsUsedAt}
 use Rattle.station_scan.specs.Passing.{AreCounted, AreDropped, AreFor, AreGoneOrSame, AreGrowing, AreTakenTo, CanSend, Fits, FitTo, HasPassed, HasStaged, IsAppending, IsBetween, IsCounted, IsFront, IsGrowingTo, IsMaking, IsPartOf, IsRouted, IsStagingFor, IsStagingTo, IsTakenFor, StopsPassing, all_sent, begun_in, copied_in, counts_in, is_begun, is_filled, is_first, is_longer, is_made, links_to, made_in, path_to, staging_to, with_group}
 use Rattle.station_scan.specs.{Fitting.IsOff, Publishing.{AreGoing, AreGone, IsGoingAt, KeepsStoreBut}, Scanning.IsTouched, Sending.AreRoutes}

@@ -4,7 +4,7 @@ use Rattle.{std.{proofs.lemmas.List.{append_cancel_left, Elements.All-contains},
 use Rattle.{disk_io.{specs.{Disk.{DiskState, Files}, Runs.ChangesNothing}, proofs.Moments.{then_nothing, weaker_run}}, disk_atomic.specs.Finishing.IsOfLeft}
 use Rattle.disk_atomic.specs.{StagingPaths.dotted, ListStaged.IsNameByte, declared.{finishing.Left.Left, placing_error.PlacingError.PlacingError}}
 use Rattle.{cmd_status.specs.Devices.Output, cmd_store.specs.{Scanned.ScansOn, Stops.store_answer, declared.command_error.CommandError.CommandError}}
-use Rattle.{echo_toss.specs.PacketsIn.state_in, model_steps.specs.PacketFiles.PacketFile, base_store.specs.Store.{StoreState, all_scanned}}
+use Rattle.{echo_steps.specs.PacketsIn.state_in, model_steps.specs.PacketFiles.PacketFile, base_store.specs.Store.{StoreState, all_scanned}}
 use Rattle.{station.specs.Beneath.IsUsedAt, station_scan.specs.{Scanning.{IsPutOn, IsTaken, ScansOnStore, SendsOut, StopsScan, packets_in}, Fitting.AreTaken}}
 use Rattle.station_scan.specs.Moved.{IsMoved, IsPutFrom, ScansFrom, StopsFrom, files_reported, from_number, left_cause, left_reported, reported_as}
 use Rattle.station_scan.specs.{Left.{AreFreeLeft, EndsLeft, IsLeftOf, IsOfNameOff}, Sending.IsStagingOfPacket, Sends.{IsLeftAs, WasTriedFor}}

@@ -5,8 +5,8 @@ use Rattle.disk_io.{specs.declared.disk_error.DiskError.DiskError, proofs.Moment
 use Rattle.{disk_atomic.specs.declared.placing_error.PlacingError.PlacingError, cmd_status.specs.Devices.Output, cmd_store.specs.PacketLines.counted_line}
 use Rattle.cmd_store.specs.{Answered.{AnswersOn, AreLines, RefusesNone}, Scanned.{ScansOn, files_scanned}, Stops.store_answer}
 use Rattle.cmd_store.{specs.declared.command_error.CommandError.{CommandError, TheVariants.Store}, proofs.Scans.scan_printed}
-use Rattle.echo_toss.specs.{declared.counting.CountedPacket.CountedPacket, Counts.{counted_of, counted_to, link_set}}
-use Rattle.echo_toss.{specs.{Exports.{OutgoingMessage as Sent, sent_of}, PacketsIn.state_in}, proofs.Counts.all_counted}
+use Rattle.echo_steps.specs.{declared.counting.CountedPacket.CountedPacket, Counts.{counted_of, counted_to, link_set}}
+use Rattle.echo_steps.{specs.{Exports.{OutgoingMessage as Sent, sent_of}, PacketsIn.state_in}, proofs.Counts.all_counted}
 use Rattle.{model_steps.specs.{PacketFiles.PacketFile, Scanning.scanned, Stamps.is_stamp}, base_store.specs.Store.{LooksOn, StoreState, all_scanned}}
 use Rattle.{base_store.{specs.declared.store_error.StoreError.StoreError, proofs.Runs.{quiet_disk, same_twice}}, station.specs.Beneath.IsUsedAt}
 use Rattle.station_scan.specs.Moved.{HasReported, IsMoved, IsPutFrom, ScansFrom, SendsFrom, StopsFrom, ReportsFrom, files_reported, from_number, reported_as}

@@ -4,8 +4,8 @@ use Rattle.std.proofs.lemmas.{Bool.{cases_Bool, lt-ltb}, List.{append-nil, appen
 use Rattle.{std.{proofs.lemmas.List.Kept.AllPairs-filter, specs.Prelude.{All, AllPairs, Contains, nat_lt, not}}, disk_io.specs.Disk.IsIn}
 use Rattle.disk_atomic.specs.{ListStaged.IsNameByte, Outgoing.{IsAtStaging, IsOfOne}, StagingPaths.staging_path, declared.outgoing.Outgoing.Outgoing}
 use Rattle.{disk_atomic.proofs.Packets.nobody, echo_addr.specs.declared.address.Address.Address, echo_packet.specs.Message.Message}
-use Rattle.{cmd_store.specs.PacketLines.packet_name, echo_toss.specs.{Counts.{copies_out, link_set}, Exports.OutgoingMessage as Sent}}
-use Rattle.{echo_toss.proofs.Counts.{copies_append, has_later}, base_store.specs.Store.StoreState, station.proofs.StagingPaths.staging_other}
+use Rattle.{cmd_store.specs.PacketLines.packet_name, echo_steps.specs.{Counts.{copies_out, link_set}, Exports.OutgoingMessage as Sent}}
+use Rattle.{echo_steps.proofs.Counts.{copies_append, has_later}, base_store.specs.Store.StoreState, station.proofs.StagingPaths.staging_other}
 use Rattle.station_scan.specs.{Passing.{AreFor, Fits, IsRouted, IsStagingFor, is_begun, is_made, links_to, path_to, staging_to}, Left.IsOfNameOff}
 use Rattle.station_scan.specs.{Publishing.AreGoing, Sending.{AreRoutes, IsSized, route_to}, declared.sending.{Route.Route, Sending.Sending}}
 use Rattle.station_scan.proofs.Lists.{all_narrow, all_of_map, contains_map, contains_of_map, kept_passes, kept_wider, pairs_of_map}

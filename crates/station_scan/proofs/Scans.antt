@@ -3,7 +3,7 @@ use Rattle.{std.{proofs.Common.{ℕ, List, [], Result, ⊎_elim, arith, inl, inr
 use Rattle.{disk_io.{specs.{Disk.{DiskState, Files}, Runs.ChangesNothing}, proofs.Moments.weaker_run}, echo_links.specs.Links.LinkFile}
 use Rattle.{disk_atomic.specs.StagingPaths.dotted, cmd_status.specs.Devices.Output, model_steps.specs.{PacketFiles.PacketFile, declared.stamp.Stamp.Stamp}}
 use Rattle.base_store.{specs.{Store.{IsSameStore, StoreState}, declared.store_error.StoreError.TheVariants.Damaged}, proofs.Runs.same_twice}
-use Rattle.{cmd_store.specs.{Scanned.ScansOn, declared.command_error.CommandError.{CommandError, TheVariants.Store}}, echo_toss.specs.PacketsIn.state_in}
+use Rattle.{cmd_store.specs.{Scanned.ScansOn, declared.command_error.CommandError.{CommandError, TheVariants.Store}}, echo_steps.specs.PacketsIn.state_in}
 use Rattle.station_scan.specs.{Publishing.KeepsStoreBut, Scanning.{IsPutOn, IsTouched, ScansOnStore, StopsScan}, declared.scan_error.ScanError.ScanError}
 use Rattle.station_scan.{specs.declared.scan_error.ScanError.TheVariants.Command, proofs.Published.{keeps_nothing, keeps_then, keeps_wider}}
 use Rattle.station_scan.proofs.{Lefts.finishes_none, Looked.{looked_out, looked_stop, same_seen}}

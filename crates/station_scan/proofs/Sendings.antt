@@ -6,7 +6,7 @@ use Rattle.disk_atomic.specs.{Outgoing.{IsAtStaging, IsFilled, IsFree}, Trying.W
 use Rattle.{disk_atomic.specs.declared.placing_error.PlacingError.PlacingError, base_file.specs.Base.Base, disk_io.specs.Device.Failed}
 use Rattle.disk_io.{specs.{Disk.{DiskState, Files}, Runs.{LeavesOnly, OneStepOn}}, proofs.Moments.{left_now, then_run, weaker_run}}
 use Rattle.{model_steps.specs.PacketFiles.PacketFile, base_store.specs.Store.{Commits, IsSameStore, LeavesEither, MayCommit, StoreState, all_scanned}}
-use Rattle.{base_store.proofs.Runs.same_twice, echo_toss.specs.{Counts.link_set, Exports.OutgoingMessage as Sent}}
+use Rattle.{base_store.proofs.Runs.same_twice, echo_steps.specs.{Counts.link_set, Exports.OutgoingMessage as Sent}}
 use Rattle.{station.specs.Beneath.{HoldsAsBefore, IsUsedAt}, station_scan.specs.declared.{scan_error.ScanError.TheVariants.Staying, sending.Sending.Sending}}
 use Rattle.station_scan.specs.Passing.{AreFor, AreGrowing, CanSend, HasPassed, IsGrowingTo, IsStagingTo, all_sent, is_made, links_to}
 use Rattle.station_scan.specs.Publishing.{AreGone, ArePublished, HasPublishCause, IsFreeIn, IsGoingAt, IsPublishedAt, IsTriedWith, KeepsStoreBut, MayPublish, PublishesOn, StopsPublishing, ended_before, no_files}

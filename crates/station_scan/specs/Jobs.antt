@@ -3,7 +3,7 @@ use Rattle.std.specs.Prelude.{◌≡◌, ◌<◌, ℕ, List, ◌++◌, length, B
 use Rattle.disk_io.specs.{Disk.{DiskState, Honestly}, Runs.{HasCause, LeavesOnly, OneStepOn}, declared.disk_error.DiskError.DiskError}
 use Rattle.disk_atomic.specs.{Outgoing.{ArePlaced, IsFree, IsStaged, staged_in}, ListStaged.AreListed, Naming.{HasItsPath, NamesEach}}
 use Rattle.disk_atomic.specs.{Publishing.HasPlacingCause, declared.{listing.StagedPacket.StagedPacket, outgoing.Outgoing.Outgoing}}
-use Rattle.{disk_atomic.specs.declared.placing_error.PlacingError.{PlacingError, TheVariants.Taken}, echo_toss.specs.Exports.OutgoingMessage as Sent}
+use Rattle.{disk_atomic.specs.declared.placing_error.PlacingError.{PlacingError, TheVariants.Taken}, echo_steps.specs.Exports.OutgoingMessage as Sent}
 use Rattle.station_scan.specs.{Left.{AreFreeLeft, EndsLeft}, Passing.{AreGrowing, IsAppending}}
 use Rattle.station_scan.specs.Publishing.{AreGone, AreStaged, HasStageCause, IsStagingOnDisk, IsTriedWith, IsWritten, NoneStays, ended_in}
 use Rattle.station_scan.specs.declared.{publish_error.PublishError.PublishError, sending.Sending.Sending, writing.Batch.Batch}

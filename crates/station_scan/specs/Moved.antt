@@ -4,8 +4,8 @@ use Rattle.{base_file.specs.Base.Base, disk_io.specs.Device.Failed}
 use Rattle.{disk_io.specs.{Disk.{DiskState, Files, Honestly}, Runs.LeavesOnly, declared.disk_error.DiskError.DiskError}, disk_atomic.specs.Changes.DifferAt}
 use Rattle.{disk_atomic.specs.declared.placing_error.PlacingError.PlacingError, cmd_status.specs.Devices.Output, model_steps.specs.PacketFiles.PacketFile}
 use Rattle.{base_store.specs.Store.{HasStoreCause, LooksOn, StoreState, all_scanned}, cmd_store.specs.{Scanned.{ScansOn, files_scanned}, Stops.store_answer}}
-use Rattle.{cmd_store.specs.declared.command_error.CommandError.{CommandError, TheVariants.{Met, Store}}, echo_toss.specs.Bounds.IsFullWhenRead}
-use Rattle.{echo_toss.specs.PacketsIn.state_in, station.specs.Beneath.HoldsAsBefore}
+use Rattle.{cmd_store.specs.declared.command_error.CommandError.{CommandError, TheVariants.{Met, Store}}, echo_steps.specs.Bounds.IsFullWhenRead}
+use Rattle.{echo_steps.specs.PacketsIn.state_in, station.specs.Beneath.HoldsAsBefore}
 use Rattle.station_scan.specs.{Sends.{AreSentOn, IsLeftAs, IsOfThese, SendsThese, WasTriedFor, WritesStaging}, Beneath.IsFullOnWay, Fitting.AreTaken}
 use Rattle.station_scan.specs.{Passing.AreGoneOrSame, Publishing.KeepsStoreBut, Scanning.packets_in, Sending.{IsFreeAt, IsStagingOfPacket}}
 use Rattle.station_scan.specs.{Stops.{IsOfPlacing, most}, declared.{pieces.ScanSource.ScanSource, sending.Sending.Sending, scan_error.ScanError.ScanError}}

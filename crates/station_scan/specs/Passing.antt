@@ -3,8 +3,8 @@ use Rattle.std.specs.Prelude.{◌≡◌, ◌⊎◌, ◌==◌, ℕ, Bool, true, n
 use Rattle.{disk_io.specs.{Disk.{DiskState, Files, Honestly, IsIn, bytes_in}, Fixed.AreBytes}, disk_atomic.specs.{Changes.CanGrow, StagingPaths.staging_path}}
 use Rattle.{disk_atomic.specs.declared.outgoing.Outgoing.Outgoing, echo_addr.specs.declared.address.Address.Address, echo_packet.specs.Header.header_bytes}
 use Rattle.{echo_packet.specs.Message.messages_bytes, model_steps.specs.{Scanning.header_to, Stamps.is_stamp}, base_file.specs.Base.Base}
-use Rattle.echo_toss.specs.{Counts.{copies_out, counted_to, counted_with, has_messages, link_set}, Exports.{OutgoingMessage as Sent, sent_of}}
-use Rattle.{echo_toss.specs.declared.counting.CountedPacket.CountedPacket, cmd_store.specs.PacketLines.packet_name, base_store.specs.Store.StoreState}
+use Rattle.echo_steps.specs.{Counts.{copies_out, counted_to, counted_with, has_messages, link_set}, Exports.{OutgoingMessage as Sent, sent_of}}
+use Rattle.{echo_steps.specs.declared.counting.CountedPacket.CountedPacket, cmd_store.specs.PacketLines.packet_name, base_store.specs.Store.StoreState}
 use Rattle.{station.specs.Beneath.{AreSettledByOwn, IsUsedAt}, station_scan.specs.{Sending.AreRoutes, declared.counting.LinkPacket.LinkPacket}}
 use Rattle.station_scan.specs.declared.{publish_error.PublishError.PublishError, sending.Sending.Sending}
 use Rattle.station_scan.specs.declared.publish_error.PublishError.TheVariants.{Base as OfBase, Packets, Reading, Staging}

@@ -6,7 +6,7 @@ use Rattle.disk_atomic.specs.{Changes.DifferAt, Finishing.{FinishesEach, IsOfLef
 use Rattle.{disk_atomic.specs.StagingPaths.{dotted, staging_path}, cmd_status.specs.{declared.fault.Fault.Fault, Devices.Output}}
 use Rattle.{model_steps.specs.{PacketFiles.PacketFile, Scanning.scanned, declared.stamp.Stamp.Stamp}, base_store.specs.Store.{StoreState, all_scanned}}
 use Rattle.{base_store.specs.declared.store_error.StoreError.TheVariants.{Damaged, Device}, cmd_store.specs.{PacketLines.file_sent, Scanned.ScansOn}}
-use Rattle.{cmd_store.specs.declared.command_error.CommandError.{CommandError, TheVariants.Store}, echo_toss.specs.PacketsIn.state_in}
+use Rattle.{cmd_store.specs.declared.command_error.CommandError.{CommandError, TheVariants.Store}, echo_steps.specs.PacketsIn.state_in}
 use Rattle.station.specs.{Place.{Place, RepresentsOrWasLeft}, Running.{IsNotRun, IsStopped}}
 use Rattle.station_scan.specs.Left.{AreAllLeft, AreFreeLeft, IsEnded, IsEndedAt, IsLeftOf, IsOfName}
 use Rattle.station_scan.specs.{Sending.{HasBytes, IsAtItsPath, IsStagingOfPacket, IsFreeAt, IsStagingGone, IsStagingOn, IsWholeAlone}, Fitting.AreTaken, Publishing.IsOnDisk}

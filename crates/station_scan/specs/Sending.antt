@@ -2,7 +2,7 @@
 use Rattle.std.specs.Prelude.{◌≡◌, ◌≢◌, ◌⊎◌, ◌<◌, ◌^◌, ℕ, List, [], ◌++◌, map, All, Contains, Some, None}
 use Rattle.disk_io.specs.Fixed.{AreBytes}
 use Rattle.{disk_io.specs.Disk.{DiskState, Files}, echo_addr.specs.declared.address.Address.Address, echo_links.specs.Links.LinkFile}
-use Rattle.{echo_toss.specs.Counts.link_set, cmd_store.specs.PacketLines.packet_name, model_steps.specs.PacketFiles.PacketFile}
+use Rattle.{echo_steps.specs.Counts.link_set, cmd_store.specs.PacketLines.packet_name, model_steps.specs.PacketFiles.PacketFile}
 use Rattle.disk_atomic.specs.{Changes.HasOnDisk, declared.outgoing.Outgoing.Outgoing, ListStaged.IsNameByte, StagingPaths.{dotted, staging_path}}
 use Rattle.station_scan.specs.{Publishing.IsOnDisk, declared.sending.{Route.Route, Sending.Sending, TwoPaths.TwoPaths}}
 

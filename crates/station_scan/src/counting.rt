@@ -8,7 +8,7 @@ use crate::sending::{Route, Sending};
 use cmd_store::{CommandError, print_counted};
 use disk_atomic::Outgoing;
 use disk_io::Sink;
-use echo_toss::{CountedPacket, Group};
+use echo_steps::{CountedPacket, Group};
 use std::alloc::{AllocError, Global};
 
 /// The packet for a link, what it has so far, and how many messages it had before the last group.

@@ -2,7 +2,7 @@
 ghost use Rattle.std.specs.Prelude.{◌<◌, ◌++◌, ℕ, List, length, All, IsErrOf, OnOk};
 ghost use Rattle.disk_io.specs.{Disk.{Honestly, IsIn}, Runs.HasCause};
 ghost use Rattle.disk_atomic.specs.{Changes.ChangesOnly, Outgoing.{ArePlaced, IsAtStaging, IsFree, IsStagingOne}, Publishing.HasPlacingCause};
-ghost use Rattle.{echo_toss.specs.Exports.OutgoingMessage as Sent, station_scan.specs.{Passing.{AreGrowing, IsAppending, header_for}, Publishing.IsWritten}};
+ghost use Rattle.{echo_steps.specs.Exports.OutgoingMessage as Sent, station_scan.specs.{Passing.{AreGrowing, IsAppending, header_for}, Publishing.IsWritten}};
 ghost use Rattle.station_scan.specs.Writing.{IsBegun, IsOpen};
 
 use crate::pieces::{Copies, Headers};
@@ -10,7 +10,7 @@ use crate::sending::Sending;
 use crate::writing::{Batch, append_open};
 use disk_atomic::{Outgoing, PlacingError, make_packets};
 use disk_io::{Disk, DiskError};
-use echo_toss::Group;
+use echo_steps::Group;
 use std::alloc::Global;
 
 // Writes the headers of packets into their new staging files.

@@ -8,7 +8,7 @@ use crate::sending::Sending;
 use crate::writing::Batch;
 use disk_atomic::{Outgoing, PlacingError, StagedPacket, drop_staging};
 use disk_io::{Disk, DiskError};
-use echo_toss::Group;
+use echo_steps::Group;
 use station::{DiskJob, OwnPaths};
 use std::alloc::Global;
 

@@ -1,7 +1,7 @@
 //! The messages of a store are gone over once, and their packets sent out with its commit.
 ghost use Rattle.std.specs.Prelude.{◌≡◌, List, IfErr, OnOk};
 ghost use Rattle.{base_file.specs.Base.Base, disk_io.specs.{Device.Failed, Disk.Honestly}};
-ghost use Rattle.{base_store.specs.Store.{Commits, MayCommit}, cmd_status.specs.Devices.output_of, echo_toss.specs.Exports.OutgoingMessage as Sent};
+ghost use Rattle.{base_store.specs.Store.{Commits, MayCommit}, cmd_status.specs.Devices.output_of, echo_steps.specs.Exports.OutgoingMessage as Sent};
 ghost use Rattle.station_scan.specs.{Moved.{HasScanCause, IsMoved, ScansFrom, SendsFrom}, Passing.{CanSend, HasPassed, IsMaking}};
 ghost use Rattle.station_scan.specs.{Publishing.{HasPublishCause, KeepsStoreBut}, Scanning.{IsTouched, packets_in}, Stops.{IsOfBase, scan_done}};
 

@@ -1,7 +1,7 @@
 //! A pass over the messages of a store: packets are counted, and their copies are written while they are read.
 ghost use Rattle.std.specs.Prelude.{◌≡◌, ◌⊎◌, ◌++◌, [], List, All, IfErr, IfOk, IsErrOf, OnOk, map};
 ghost use Rattle.{base_file.specs.Base.Base, disk_io.specs.Disk.Honestly};
-ghost use Rattle.{disk_atomic.specs.Publishing.HasPlacingCause, echo_toss.specs.Exports.OutgoingMessage as Sent};
+ghost use Rattle.{disk_atomic.specs.Publishing.HasPlacingCause, echo_steps.specs.Exports.OutgoingMessage as Sent};
 ghost use Rattle.station_scan.specs.Passing.{AreTakenTo, CanSend, HasPassed, HasStaged, IsBetween, IsMaking, IsPartOf, IsTakenFor, begun_in, copied_in, with_group};
 ghost use Rattle.station_scan.specs.{Fitting.IsOff, Writing.HasStopCause};
 ghost use Rattle.disk_atomic.specs.declared.placing_error.PlacingError.TheVariants as placing;
@@ -15,7 +15,7 @@ use base_store::{Store, StoreError};
 use cmd_status::MessageProgress;
 use disk_atomic::{Outgoing, PlacingError};
 use disk_io::Disk;
-use echo_toss::{Group, gather_group};
+use echo_steps::{Group, gather_group};
 use station::{LendStation, OwnPaths};
 use std::alloc::Global;
 

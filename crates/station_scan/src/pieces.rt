@@ -1,12 +1,12 @@
 //! The pieces of a packet: its header, the copies of a group of messages, its end.
-ghost use Rattle.{echo_packet.specs.{Header.{header_bytes, word}, Message.messages_bytes}, model_steps.specs.Scanning.header_to, echo_toss.specs.Counts.copies_out};
+ghost use Rattle.{echo_packet.specs.{Header.{header_bytes, word}, Message.messages_bytes}, model_steps.specs.Scanning.header_to, echo_steps.specs.Counts.copies_out};
 
 use disk_atomic::Pieces;
 use disk_io::Watched;
 use echo_addr::Address;
 use echo_links::LinkFile;
 use echo_packet::send_header;
-use echo_toss::{Group, group_copies, packet_header};
+use echo_steps::{Group, group_copies, packet_header};
 use model_steps::Stamp;
 use std::alloc::{AllocError, Global};
 

@@ -11,7 +11,7 @@ use cmd_status::MessageProgress;
 use cmd_store::{CommandError, print_counted};
 use disk_atomic::PlacingError;
 use disk_io::{DiskError, Sink};
-use echo_toss::count_packets;
+use echo_steps::count_packets;
 use std::alloc::Global;
 
 /// Counts the packets of the messages, and prints their lines.

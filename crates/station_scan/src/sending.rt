@@ -1,6 +1,6 @@
 //! Where the packets of a scan go.
 ghost use Rattle.std.specs.Prelude.{◌≡◌, ◌≤◌, All, IfErr, IfOk, OnOk, map};
-ghost use Rattle.{disk_atomic.specs.StagingPaths.staging_path, echo_toss.specs.Counts.link_set};
+ghost use Rattle.{disk_atomic.specs.StagingPaths.staging_path, echo_steps.specs.Counts.link_set};
 ghost use Rattle.station_scan.specs.{Sending.{IsPlanned, IsSized, route_to, two_paths}, Stops.{IsUnplanned, most}};
 
 use crate::pieces::ScanSource;
@@ -9,7 +9,7 @@ use cmd_store::packet_name;
 use disk_atomic::staging_path;
 use echo_addr::{Address, Items};
 use echo_links::LinkFile;
-use echo_toss::link_set;
+use echo_steps::link_set;
 use station::system_name;
 use std::alloc::{AllocError, Global};
 

@@ -1,7 +1,7 @@
 //! A pass that stops removes its staging files.
 ghost use Rattle.std.specs.Prelude.{◌≡◌, ◌<◌, ℕ, List, IfErr, IfOk, IsErrOf, None, OnOk};
 ghost use Rattle.{base_file.specs.Base.Base, disk_io.specs.{Disk.Honestly, Runs.HasCause}};
-ghost use Rattle.{echo_toss.specs.Exports.OutgoingMessage as Sent, station.specs.Beneath.IsUsedAt, station_scan.specs.Writing.publish_stop};
+ghost use Rattle.{echo_steps.specs.Exports.OutgoingMessage as Sent, station.specs.Beneath.IsUsedAt, station_scan.specs.Writing.publish_stop};
 ghost use Rattle.station_scan.specs.{Passing.{AreCounted, CanSend, FitTo, HasPassed, IsStagingTo, IsTakenFor, StopsPassing}, Publishing.HasPublishCause};
 
 use crate::counting::{LinkPacket, empty_packets, made_of};

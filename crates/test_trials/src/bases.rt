@@ -1,3 +1,5 @@
+//! Tests of bases over a disk that fails.
+
 ghost use Rattle.std.specs.Prelude.{◌≡◌, IfOk};
 ghost use Rattle.{disk_io.specs.Disk.Honestly, base_log.specs.{AtRest.{IsAtRest, IsStaged}, Names.{AreNames, folder_of}}};
 ghost use Rattle.base_log.specs.Opening.{AreAlone};

@@ -1,3 +1,5 @@
+//! Tests of the disk of the system.
+
 use disk_io::{Disk, DiskError};
 use disk_system::{NoFiles, RealDisk};
 use std::fs;

@@ -7,7 +7,7 @@
 use anyhow::{Result, bail};
 use disk_io::{Sink, Watched};
 use echo_links::LinkFile;
-use model_replay::{World, read_script, replay};
+use echo_net::{World, read_script, replay_with};
 use std::alloc::Global;
 use std::fs;
 use std::hash::RandomState;
@@ -20,14 +20,14 @@ const FILES: [&[u8]; 2] = [
 
 const SCRIPT: &[u8] = b"POST 0 TEST 00000001 Hello\nSCAN 0\nDELIVER 0\n";
 
-fn save<W: Sink>(world: &World, system: usize, writer: &mut W) -> Result<()> {
+fn save<W: Sink>(world: &World<RandomState>, system: usize, writer: &mut W) -> Result<()> {
     match world.save(system, writer) {
         Some(saved) => Ok(saved?),
         None => bail!("no such system"),
     }
 }
 
-fn base_of(alloc: Global, world: &World, system: usize) -> Result<Vec<u8>> {
+fn base_of(alloc: Global, world: &World<RandomState>, system: usize) -> Result<Vec<u8>> {
     let mut writer = Watched::new(Vec::new(alloc));
     save(world, system, &mut writer)?;
     Ok(writer.into_inner())
@@ -42,7 +42,7 @@ fn put(rt: &HostRuntime, folder: Option<&String>, name: &String, bytes: &[u8]) -
     Ok(bytes.len() as u64)
 }
 
-fn put_bases(rt: &HostRuntime, folder: Option<&String>, world: &World) -> Result<u64> {
+fn put_bases(rt: &HostRuntime, folder: Option<&String>, world: &World<RandomState>) -> Result<u64> {
     let mut all = 0u64;
     for system in 0..world.systems() {
         let bytes = base_of(rt.alloc(), world, system)?;
@@ -52,18 +52,27 @@ fn put_bases(rt: &HostRuntime, folder: Option<&String>, world: &World) -> Result
     Ok(all)
 }
 
-fn put_packets(rt: &HostRuntime, folder: Option<&String>, world: &World) -> Result<u64> {
+fn put_packets(
+    rt: &HostRuntime,
+    folder: Option<&String>,
+    world: &World<RandomState>,
+) -> Result<u64> {
     let mut all = 0u64;
     for packet in 0..world.packets() {
-        if let Some(bytes) = world.packet(rt.alloc(), packet)? {
+        if let Some(bytes) = world.packet(packet) {
             let name = format!(in rt.alloc(); "{packet}.pkt")?;
-            all = all.wrapping_add(put(rt, folder, &name, &bytes)?);
+            all = all.wrapping_add(put(rt, folder, &name, bytes)?);
         }
     }
     Ok(all)
 }
 
-fn leave(rt: &HostRuntime, folder: Option<&String>, events: usize, world: &World) -> Result<()> {
+fn leave(
+    rt: &HostRuntime,
+    folder: Option<&String>,
+    events: usize,
+    world: &World<RandomState>,
+) -> Result<()> {
     let bases = put_bases(rt, folder, world)?;
     let packets = put_packets(rt, folder, world)?;
     println!(rt;
@@ -81,7 +90,7 @@ fn run_on(
     files: Vec<LinkFile>,
 ) -> Result<()> {
     let events = read_script(rt.alloc(), script)?;
-    let world = replay(rt.alloc(), files, &events, RandomState::new(rt)?)?;
+    let world = replay_with(rt.alloc(), files, &events, RandomState::new(rt)?)?;
     leave(rt, folder, events.len(), &world)
 }
 

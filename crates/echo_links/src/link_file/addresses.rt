@@ -1,3 +1,5 @@
+//! The addresses of a line of a link file.
+
 ghost use Rattle.std.specs.Prelude.{◌≡◌, ◌⊎◌, [], Some, None, true, false, map, MatchResult};
 ghost use Rattle.echo_addr.specs.{Address.address_in, Entries.tokens};
 ghost use Rattle.echo_links.specs.declared.fault.LinkFault.TheVariants as link;

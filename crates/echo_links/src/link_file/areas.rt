@@ -1,3 +1,5 @@
+//! The areas of a link file, in its order.
+
 ghost use Rattle.std.specs.Prelude.{◌≡◌, [], ◌∷◌, ◌++◌, None, length, slice_get, option_copied, option_map, is_some, find, bytes_eq, OnOk};
 
 use super::links::Links;

@@ -1,3 +1,5 @@
+//! The lines of link files and scripts.
+
 ghost use Rattle.std.specs.{Prelude.◌≡◌, Prelude.◌<◌, Prelude.◌∷◌, Prelude.length, List.list_all, List.list_any};
 ghost use Rattle.echo_links.specs.LinkLines.{file_lines, is_control_byte, is_skipped, is_space_or_tab, without_return};
 

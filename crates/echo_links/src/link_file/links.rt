@@ -1,3 +1,5 @@
+//! The links of an area.
+
 ghost use Rattle.std.specs.{Prelude.◌≡◌, List.list_any};
 ghost use Rattle.echo_links.specs.Links.{same_address};
 

@@ -1,3 +1,5 @@
+//! The lines of a link file, read one after another.
+
 ghost use Rattle.std.specs.Prelude.{◌≡◌, ◌⊎◌, ◌++◌, ◌∷◌, [], List, ℕ, Some, None, is_some, map, MatchResult};
 ghost use Rattle.echo_addr.specs.{Address.address_in, Entries.tokens};
 ghost use Rattle.echo_text.specs.Lines.{trimmed};

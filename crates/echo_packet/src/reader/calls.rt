@@ -1,3 +1,5 @@
+//! The calls of a reader of packets.
+
 ghost use Rattle.std.specs.Prelude.{◌≡◌, ◌≢◌, ◌+◌, [], length, Err, IfOk, IfErr, IfSome};
 ghost use Rattle.std.specs.Io.KnownBytes.{Consumes};
 ghost use Rattle.echo_packet.specs.Next.{CountsFailures, FailsInMessage, IsWithin, NextFault, TakesNext, next_bytes};

@@ -1,5 +1,4 @@
 use Rattle.{std.proofs.Common.{◌≡◌, ◌≤◌, ℕ}, base_file.specs.Base.Base, base_folder.specs.Source.AreLegibleTo}
-use Rattle.cmd_numbered.specs.JamAdded.{Added, HasAdded, added_of}
 use Rattle.cmd_numbered.proofs.adding.added_of.Given as goal
 
 abbrev pub invariant-messages : goal.invariant-messages
@@ -11,8 +10,5 @@ invariant-messages g l = record {
   since : (i : ℕ) → (g.M.MessageSource.state l.messages).legible i → (g.M.MessageSource.state l.fn.messages).legible i;
   read : (g.M.MessageSource.state l.messages).is_honest → AreLegibleTo (g.M.MessageSource.state l.fn.messages) l.i;
   later : (g.M.MessageSource.state l.fn.messages).failures ≤ (g.M.MessageSource.state l.messages).failures;
-  so_far : (added : Added) × HasAdded l.adding (g.W.Write.contents l.fn.texts) (g.W.Write.contents l.texts) added
-      × ((g.M.MessageSource.state l.messages).is_honest → (base : Base) → (g.M.MessageSource.state l.fn.messages).holds base
-      → added ≡ added_of l.area l.first base.cursor l.jam.headers.now l.jam.index.now l.jam.end base.messages l.i);
   failed : g.W.Sink.failures l.texts ≡ g.W.Sink.failures l.fn.texts;
 }

@@ -1,4 +1,4 @@
-use Rattle.{std.proofs.Common.{◌≡◌, ◌≤◌}, base_file.specs.Base.Base, cmd_numbered.specs.Numbered.{IsMade, files_of}}
+use Rattle.{std.proofs.Common.{◌≡◌, ◌≤◌}, base_file.specs.Base.Base, cmd_numbered.specs.Numbered.HasMade}
 use Rattle.cmd_numbered.proofs.numbering.make_files.Given as goal
 
 abbrev pub invariant-messages : goal.invariant-messages
@@ -9,6 +9,5 @@ invariant-messages g l = record {
   held : (base : Base) → (g.M.MessageSource.state l.fn.messages).holds base → (g.M.MessageSource.state l.messages).holds base;
   later : (g.M.MessageSource.state l.fn.messages).failures ≤ (g.M.MessageSource.state l.messages).failures;
   few : l.made ≤ l.i;
-  so_far : (g.M.MessageSource.state l.messages).is_honest → (base : Base) → (g.M.MessageSource.state l.fn.messages).holds base → l.wanted.cursor ≡ base.cursor
-      → IsMade (files_of l.wanted.area.now l.wanted.first base.cursor l.wanted.number base.messages l.i) (g.F.MessageFolder.made l.fn.folder) (g.F.MessageFolder.made l.folder) l.made;
+  so_far : HasMade (g.F.MessageFolder.made l.fn.folder) (g.F.MessageFolder.made l.folder) l.made;
 }

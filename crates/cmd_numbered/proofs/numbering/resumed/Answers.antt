@@ -1,15 +1,5 @@
-use Rattle.std.{proofs.Common.{◌≡◌, ◌∙◌, ◌+◌, ℕ, Bool, List, Option, add-one, ap, arith, option_copied, slice_get}, specs.Prelude.if◌then◌else◌}
-use Rattle.{base_folder.proofs.{Fetchings.unread_since, Lookings.err_is, Readings.{looks_on, read_more}}, echo_filed.specs.Filed.Filed}
-use Rattle.cmd_numbered.specs.Numbered.{is_last, resumed}
+use Rattle.{std.proofs.Common.{◌∙◌, arith}, base_folder.proofs.{Fetchings.unread_since, Lookings.err_is, Readings.{looks_on, read_more}}}
 use Rattle.cmd_numbered.proofs.numbering.resumed.Goals as goal
-
-one_more : (area : List ℕ) (first cursor i new before : ℕ) (last : Option (List ℕ)) (base : List Filed) (found : Bool)
-    → found ≡ is_last area first cursor last i (slice_get base i) → before ≡ resumed area first cursor last base i
-    → new ≡ (if found then i + 1 else before) → new ≡ resumed area first cursor last base (i + 1)
-one_more area first cursor i new before last base found found_is so_far new_is =
-    rw add-one
-    (new_is ∙ ap (λ (n : ℕ). if found then i + 1 else n) so_far
-    ∙ ap (λ (b : Bool). if b then i + 1 else resumed area first cursor last base i) found_is)
 
 pub messages-init : goal.messages-init
 messages-init g c = grind arith
@@ -41,11 +31,7 @@ messages-preserved g c =
       since = λ j is. inv.since j (c.fetch_message.ensures.legible.since j is);
       read = read_more (g.M.MessageSource.state c.args.messages.now) (g.M.MessageSource.state c.messages.messages) (g.M.MessageSource.state c.fetch_message.new.messages) c.messages.i inv.since looks.honest inv.read c.in_ok-fetch_message.ensures.legible.here;
       later = omega (arith, inv.later, c.fetch_message.ensures.later);
-      so_far = grind (arith, one_more, option_copied);
     }
-
-pub returns-clause-from : goal.returns-clause-from
-returns-clause-from g c = grind (arith, option_copied)
 
 pub returns-clause-whole : goal.returns-clause-whole
 returns-clause-whole g c honest = λ i within. c.messages.invariant.read honest i (omega (arith, within, c.messages-test.false, c.count-count.ensures.count))

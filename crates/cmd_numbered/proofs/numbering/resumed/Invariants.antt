@@ -1,5 +1,4 @@
-use Rattle.{std.proofs.Common.{◌≡◌, ◌≤◌, option_copied, ℕ}, base_file.specs.Base.Base, base_folder.specs.Source.AreLegibleTo}
-use Rattle.cmd_numbered.specs.Numbered.{resumed}
+use Rattle.{std.proofs.Common.{◌≡◌, ◌≤◌, ℕ}, base_file.specs.Base.Base, base_folder.specs.Source.AreLegibleTo}
 use Rattle.cmd_numbered.proofs.numbering.resumed.Given as goal
 
 abbrev pub invariant-messages : goal.invariant-messages
@@ -11,5 +10,4 @@ invariant-messages g l = record {
   since : (i : ℕ) → (g.M.MessageSource.state l.messages).legible i → (g.M.MessageSource.state l.fn.messages).legible i;
   read : (g.M.MessageSource.state l.messages).is_honest → AreLegibleTo (g.M.MessageSource.state l.fn.messages) l.i;
   later : (g.M.MessageSource.state l.fn.messages).failures ≤ (g.M.MessageSource.state l.messages).failures;
-  so_far : (g.M.MessageSource.state l.messages).is_honest → (base : Base) → (g.M.MessageSource.state l.fn.messages).holds base → l.from ≡ resumed l.area l.first base.cursor (option_copied l.last) base.messages l.i;
 }

@@ -1,5 +1,5 @@
 use Rattle.{std.{proofs.Common.{◌≡◌, ◌∙◌, ◌<◌, arith, length, option_copied}, specs.Prelude.min}, base_folder.proofs.{Fetchings.unread_since, Lookings.err_is}}
-use Rattle.{echo_toss.proofs.Resendings.{copies_of, next_resent}, cmd_numbered.proofs.Resendings.{added_at, read_from}}
+use Rattle.{echo_steps.proofs.Resendings.{copies_of, next_resent}, cmd_numbered.proofs.Resendings.{added_at, read_from}}
 use Rattle.cmd_numbered.proofs.resending.copies_of.Goals as goal
 
 pub scanned-init : goal.scanned-init

@@ -1,5 +1,5 @@
 use Rattle.{std.proofs.Common.{ℕ, ◌≡◌, ◌≤◌, ◌-◌, ◌++◌, take, drop}, base_file.specs.Base.Base, model_steps.specs.Resending.resent}
-use Rattle.{echo_toss.proofs.Resendings.copies_of, cmd_numbered.specs.Resending.AreLegibleFrom}
+use Rattle.{echo_steps.proofs.Resendings.copies_of, cmd_numbered.specs.Resending.AreLegibleFrom}
 use Rattle.cmd_numbered.proofs.resending.copies_of.Given as goal
 
 abbrev pub invariant-scanned : goal.invariant-scanned

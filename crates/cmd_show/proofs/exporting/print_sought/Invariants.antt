@@ -1,5 +1,4 @@
-use Rattle.{std.proofs.Common.{◌≡◌, ◌≤◌, ◌*◌, ◌^◌, ◌++◌}, base_file.specs.Base.Base, cmd_status.specs.Lines.PassesOn}
-use Rattle.cmd_show.specs.Exporting.{sought_lost, sought_texts}
+use Rattle.{std.proofs.Common.{◌≡◌, ◌≤◌, ◌*◌, ◌^◌, ℕ}, base_file.specs.Base.Base, cmd_show.specs.Fetching.AreLegibleBetween}
 use Rattle.cmd_show.proofs.exporting.print_sought.Given as goal
 
 abbrev pub invariant-messages : goal.invariant-messages
@@ -8,11 +7,9 @@ invariant-messages g l = record {
   ready : (g.M.MessageSource.state l.messages).is_ready;
   many : (g.M.MessageSource.state l.messages).count ≡ l.count;
   holds : (base : Base) → (g.M.MessageSource.state l.fn.messages).holds base → (g.M.MessageSource.state l.messages).holds base;
+  since : (i : ℕ) → (g.M.MessageSource.state l.messages).legible i → (g.M.MessageSource.state l.fn.messages).legible i;
+  read : (g.M.MessageSource.state l.messages).is_honest → AreLegibleBetween (g.M.MessageSource.state l.fn.messages) l.sought.first l.i;
   later : (g.M.MessageSource.state l.fn.messages).failures ≤ (g.M.MessageSource.state l.messages).failures;
-  printed : (g.M.MessageSource.state l.messages).is_honest → (base : Base) → (g.M.MessageSource.state l.fn.messages).holds base
-      → PassesOn (l.fn.lines.items ++ sought_texts l.sought.form l.sought.area l.sought.first l.sought.purged base.cursor base.messages l.i) l.lines.items (g.W.Write.contents l.fn.out) (g.W.Write.contents l.out);
-  counted : (g.M.MessageSource.state l.messages).is_honest → (base : Base) → (g.M.MessageSource.state l.fn.messages).holds base
-      → l.lost ≡ sought_lost l.sought.form l.sought.area l.sought.first l.sought.purged base.cursor base.messages l.i;
   bound : l.lost ≤ l.i * 2 ^ 64;
   failed : g.W.Sink.failures l.out ≡ g.W.Sink.failures l.fn.out;
 }

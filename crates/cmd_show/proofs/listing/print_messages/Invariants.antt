@@ -1,4 +1,4 @@
-use Rattle.{std.proofs.Common.{◌≡◌, ◌≤◌, ◌++◌}, base_file.specs.Base.Base, cmd_status.specs.Lines.PassesOn, cmd_print.specs.BaseListed.messages_text}
+use Rattle.{std.proofs.Common.{◌≡◌, ◌≤◌, ℕ}, base_file.specs.Base.Base, cmd_show.specs.Fetching.AreLegibleBetween}
 use Rattle.cmd_show.proofs.listing.print_messages.Given as goal
 
 abbrev pub invariant-messages : goal.invariant-messages
@@ -7,8 +7,8 @@ invariant-messages g l = record {
   ready : (g.M.MessageSource.state l.messages).is_ready;
   many : (g.M.MessageSource.state l.messages).count ≡ l.count;
   holds : (base : Base) → (g.M.MessageSource.state l.fn.messages).holds base → (g.M.MessageSource.state l.messages).holds base;
+  since : (i : ℕ) → (g.M.MessageSource.state l.messages).legible i → (g.M.MessageSource.state l.fn.messages).legible i;
+  read : (g.M.MessageSource.state l.messages).is_honest → AreLegibleBetween (g.M.MessageSource.state l.fn.messages) l.asked.first l.i;
   later : (g.M.MessageSource.state l.fn.messages).failures ≤ (g.M.MessageSource.state l.messages).failures;
-  printed : (g.M.MessageSource.state l.messages).is_honest → (base : Base) → (g.M.MessageSource.state l.fn.messages).holds base
-      → PassesOn (l.fn.lines.items ++ messages_text l.asked.form l.asked.area l.asked.first base.messages base.cursor l.i) l.lines.items (g.W.Write.contents l.fn.out) (g.W.Write.contents l.out);
   failed : g.W.Sink.failures l.out ≡ g.W.Sink.failures l.fn.out;
 }

@@ -1,6 +1,6 @@
 use Rattle.std.proofs.{Common.arith, lemmas.Result.err_from_is_err_and}
 use Rattle.base_store.proofs.Runs.{looks_commit, looks_go_on, no_look}
-use Rattle.echo_toss.{specs.PacketsIn.state_in, proofs.Bounds.past_wider}
+use Rattle.echo_steps.{specs.PacketsIn.state_in, proofs.Bounds.past_wider}
 use Rattle.cmd_store.proofs.{Commits.caused_after, Commits.committed_where, Commits.makes_none, Commits.makes_then, Commits.met_after, Commits.met_refused, Commits.ready_where, FreePostings.as_memory, FreePostings.as_posts, FreePostings.as_printed, FreePostings.as_stopped, Postings.post_caused, Bounded.full_after, Bounded.post_many}
 use Rattle.cmd_store.proofs.posting.post_as.Goals as goal
 

@@ -1,6 +1,6 @@
 use Rattle.{std.proofs.{Common.{refl, ◌∙◌, arith}, lemmas.Result.err_from_is_err_and}, base_store.proofs.Runs.{looks_commit, looks_then_commits}}
 use Rattle.cmd_store.proofs.{Commits.{makes_none, met_looking}, Replies.{met_looked, reply_crash, reply_stopped}}
-use Rattle.{cmd_store.specs.{declared.drafting.NewMessage.NewMessage, Bounded.AddsPosted}, echo_toss.proofs.Bounds.{full_now, past_looked, past_wider}}
+use Rattle.{cmd_store.specs.{declared.drafting.NewMessage.NewMessage, Bounded.AddsPosted}, echo_steps.proofs.Bounds.{full_now, past_looked, past_wider}}
 use Rattle.cmd_store.proofs.replying.reply_on.Goals as goal
 
 pub returns-in_err-found-clause-answers : goal.returns-in_err-found-clause-answers

@@ -1,4 +1,4 @@
-use Rattle.{std.proofs.{Common.arith, lemmas.Result.err_from_is_err_and}, echo_toss.proofs.Bounds.past_wider}
+use Rattle.{std.proofs.{Common.arith, lemmas.Result.err_from_is_err_and}, echo_steps.proofs.Bounds.past_wider}
 use Rattle.cmd_store.proofs.serials.file_as.Goals as goal
 
 pub returns-in_err-post_step-clause-many : goal.returns-in_err-post_step-clause-many

@@ -1,4 +1,4 @@
-use Rattle.{std.proofs.{Common.arith, lemmas.Result.err_from_is_err_and}, echo_toss.proofs.Bounds.{past_looked, past_wider}}
+use Rattle.{std.proofs.{Common.arith, lemmas.Result.err_from_is_err_and}, echo_steps.proofs.Bounds.{past_looked, past_wider}}
 use Rattle.cmd_store.proofs.FreePostings.{filed_first, looks_known, none_looked, one_more_looked, refused_known, refused_on, sound_known}
 use Rattle.cmd_store.proofs.serials.file_free.Goals as goal
 

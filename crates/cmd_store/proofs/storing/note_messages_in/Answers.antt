@@ -1,6 +1,6 @@
 use Rattle.{std.proofs.{Common.{◌∙◌, ◌+◌, ap, arith, refl}, lemmas.Result.err_from_is_err_and}, base_store.proofs.Runs.{commits_none, goes_on_twice}}
-use Rattle.{model_steps.specs.Tossing.tossing, echo_toss.{specs.{Stores.and_filed, Tallies.all_counted}, proofs.Bounds.{handed_many, past_after, past_wider}}}
-use Rattle.{echo_toss.proofs.{PacketTosses.one_more_taken, PacketsIn.all_counted-tally_with}, cmd_store.proofs.{Noted.one_more_noted, NotedIn.begun_noted}}
+use Rattle.{model_steps.specs.Tossing.tossing, echo_steps.{specs.{Stores.and_filed, Tallies.all_counted}, proofs.Bounds.{handed_many, past_after, past_wider}}}
+use Rattle.{echo_steps.proofs.{PacketTosses.one_more_taken, PacketsIn.all_counted-tally_with}, cmd_store.proofs.{Noted.one_more_noted, NotedIn.begun_noted}}
 use Rattle.cmd_store.proofs.storing.note_messages_in.Goals as goal
 
 pub messages-init : goal.messages-init

@@ -1,4 +1,4 @@
-use Rattle.{std.proofs.Common.inl, echo_toss.{specs.PacketsIn.state_in, proofs.{Stops.tossed_part, PacketsIn.tossed_all as tossed_whole}}}
+use Rattle.{std.proofs.Common.inl, echo_steps.{specs.PacketsIn.state_in, proofs.{Stops.tossed_part, PacketsIn.tossed_all as tossed_whole}}}
 use Rattle.cmd_store.proofs.Noted.{noted_some}
 use Rattle.cmd_store.proofs.storing.toss_listing_unfiled.Goals as goal
 

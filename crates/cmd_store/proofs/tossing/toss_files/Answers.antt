@@ -1,5 +1,5 @@
 use Rattle.{std.proofs.{Common.arith, lemmas.Result.err_from_is_err_and}, cmd_status.specs.Devices.device_of}
-use Rattle.{cmd_store.proofs.TossedFiles.{begun_files, ended_files, more_files, refused_files, stopped_files}, echo_toss.proofs.Bounds.past_after}
+use Rattle.{cmd_store.proofs.TossedFiles.{begun_files, ended_files, more_files, refused_files, stopped_files}, echo_steps.proofs.Bounds.past_after}
 use Rattle.cmd_store.proofs.tossing.toss_files.Goals as goal
 
 pub files-init : goal.files-init

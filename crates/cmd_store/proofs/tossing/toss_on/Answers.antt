@@ -1,5 +1,5 @@
 use Rattle.{std.proofs.{Common.arith, lemmas.Result.err_from_is_err_and}, cmd_status.specs.Devices.device_of, cmd_store.proofs.Commits.makes_then}
-use Rattle.{cmd_store.proofs.{Runs.{none_before, tosses}, Bounded.full_after}, echo_toss.proofs.Bounds.handed_many}
+use Rattle.{cmd_store.proofs.{Runs.{none_before, tosses}, Bounded.full_after}, echo_steps.proofs.Bounds.handed_many}
 use Rattle.cmd_store.proofs.tossing.toss_on.Goals as goal
 
 pub returns-in_err-commit-clause-crash : goal.returns-in_err-commit-clause-crash

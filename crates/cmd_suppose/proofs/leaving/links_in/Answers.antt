@@ -1,4 +1,4 @@
-use Rattle.{std.proofs.Common.arith, echo_net.proofs.Collected.links_found}
+use Rattle.{std.proofs.Common.arith, echo_verdict.proofs.Collected.links_found}
 use Rattle.cmd_suppose.proofs.leaving.links_in.Goals as goal
 
 pub returns-in-Some : goal.returns-in-Some

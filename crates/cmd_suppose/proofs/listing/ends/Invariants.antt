@@ -1,4 +1,4 @@
-use Rattle.{std.proofs.Common.{◌≡◌, map, take}, echo_net.specs.declared.link.Link.Link}
+use Rattle.{std.proofs.Common.{◌≡◌, map, take}, echo_verdict.specs.declared.link.Link.Link}
 use Rattle.cmd_suppose.proofs.listing.ends.Given as goal
 
 abbrev pub invariant-links : goal.invariant-links

@@ -1,4 +1,4 @@
-use Rattle.{std.proofs.Common.{◌++◌, ◌∙◌, ap, List}, echo_addr.specs.declared.address.Address.Address, echo_net.proofs.Drawings.held_again}
+use Rattle.{std.proofs.Common.{◌++◌, ◌∙◌, ap, List}, echo_addr.specs.declared.address.Address.Address, echo_verdict.proofs.Drawings.held_again}
 use Rattle.cmd_suppose.proofs.listing.known.Goals as goal
 
 pub returns-clause-members : goal.returns-clause-members

@@ -1,4 +1,4 @@
-use Rattle.{echo_net.specs.Nets.systems, cmd_suppose.proofs.Listers.missing_held}
+use Rattle.{echo_verdict.specs.Nets.systems, cmd_suppose.proofs.Listers.missing_held}
 use Rattle.cmd_suppose.proofs.listing.missing.Goals as goal
 
 pub returns-clause-members : goal.returns-clause-members

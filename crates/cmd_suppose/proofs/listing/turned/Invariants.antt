@@ -1,4 +1,4 @@
-use Rattle.{std.proofs.Common.{◌≡◌, map, take}, echo_net.specs.Drawn.back}
+use Rattle.{std.proofs.Common.{◌≡◌, map, take}, echo_verdict.specs.Drawn.back}
 use Rattle.cmd_suppose.proofs.listing.turned.Given as goal
 
 abbrev pub invariant-links : goal.invariant-links

@@ -1,4 +1,4 @@
-use Rattle.{std.proofs.Common.{List, refl}, echo_addr.specs.declared.address.Address.Address, echo_net.specs.declared.link.Link.Link}
+use Rattle.{std.proofs.Common.{List, refl}, echo_addr.specs.declared.address.Address.Address, echo_verdict.specs.declared.link.Link.Link}
 use Rattle.cmd_suppose.{specs.Parts.{AreBothWays, linked_both}, proofs.Groups.{both_held, ends_carry, labels_below, parts_grouped}}
 use Rattle.cmd_suppose.proofs.parts.all_parts.Goals as goal
 

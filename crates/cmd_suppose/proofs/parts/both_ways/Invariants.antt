@@ -1,5 +1,5 @@
 -- Those of the links so far that both ends list.
-use Rattle.{std.proofs.Common.{◌≡◌, filter, take}, echo_net.specs.Drawn.{back, has_link}}
+use Rattle.{std.proofs.Common.{◌≡◌, filter, take}, echo_verdict.specs.Drawn.{back, has_link}}
 use Rattle.cmd_suppose.proofs.parts.both_ways.Given as goal
 
 abbrev pub invariant-links : goal.invariant-links

@@ -1,5 +1,5 @@
 use Rattle.{std.proofs.{Common.{◌≡◌, ◌∙◌, ℕ, List, get_or, subst, take_all}, lemmas.List.get_or_default}, echo_addr.specs.declared.address.Address.Address}
-use Rattle.{echo_links.specs.LinkLines.no_address, echo_net.specs.{declared.link.Link.Link, Nets.link}, cmd_suppose.specs.Parts.AreSettled}
+use Rattle.{echo_links.specs.LinkLines.no_address, echo_verdict.specs.{declared.link.Link.Link, Nets.link}, cmd_suppose.specs.Parts.AreSettled}
 use Rattle.cmd_suppose.proofs.Groups.{labels_more, settled_more}
 use Rattle.cmd_suppose.proofs.parts.labels.Goals as goal
 

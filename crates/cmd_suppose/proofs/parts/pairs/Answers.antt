@@ -1,5 +1,5 @@
 use Rattle.std.{proofs.Common.{◌≡◌, ◌↔◌, ℕ, List, get_or, length, refl, subst, arith}, specs.Prelude.Contains}
-use Rattle.{echo_addr.specs.declared.address.Address.Address, echo_net.specs.{declared.link.Link.Link, Nets.link, Rows.system_at}}
+use Rattle.{echo_addr.specs.declared.address.Address.Address, echo_verdict.specs.{declared.link.Link.Link, Nets.link, Rows.system_at}}
 use Rattle.cmd_suppose.{specs.Parts.ArePaired, proofs.Groups.pair_more}
 use Rattle.cmd_suppose.proofs.parts.pairs.Goals as goal
 

@@ -1,5 +1,5 @@
 use Rattle.{std.proofs.Common.{◌∙◌, sym, ap, List, ◌++◌, append-nil}, echo_filed.specs.declared.key.Key.TheVariants.ById}
-use Rattle.{echo_net.specs.declared.drawing.Crossing.Crossing, cmd_why.proofs.Bringing.{crossing-none, crossing-there}}
+use Rattle.{echo_verdict.specs.declared.drawing.Crossing.Crossing, cmd_why.proofs.Bringing.{crossing-none, crossing-there}}
 use Rattle.cmd_why.proofs.carrying.add_crossing.Goals as goal
 
 pub returns-in_ok-push : goal.returns-in_ok-push

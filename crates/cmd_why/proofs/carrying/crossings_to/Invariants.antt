@@ -1,4 +1,4 @@
-use Rattle.{std.proofs.Common.{◌≡◌, ◌++◌, drop}, echo_filed.specs.declared.key.Key.TheVariants.ById, model_replay.specs.Worlds.IsWorldOf}
+use Rattle.{std.proofs.Common.{◌≡◌, ◌++◌, drop}, echo_filed.specs.declared.key.Key.TheVariants.ById, echo_net.specs.Worlds.IsWorldOf}
 use Rattle.{model_run.specs.Run.Run, cmd_why.specs.Carrying.crossings_from}
 use Rattle.cmd_why.proofs.carrying.crossings_to.Given as goal
 

@@ -1,4 +1,4 @@
-use Rattle.{std.proofs.Common.{◌≡◌, take}, echo_filed.specs.declared.key.Key.TheVariants.ById, model_replay.specs.Worlds.IsWorldOf}
+use Rattle.{std.proofs.Common.{◌≡◌, take}, echo_filed.specs.declared.key.Key.TheVariants.ById, echo_net.specs.Worlds.IsWorldOf}
 use Rattle.model_run.specs.{Orderly.sent_count, Run.Run}
 use Rattle.cmd_why.proofs.copies.sent_times.Given as goal
 

@@ -7,7 +7,7 @@ returns g c given are raised =
     let judging = c.in_ok-verdict.ensures in
     printed_as _ _ (IsFirstFaultGiven None c.args.files.now None) (output_of g.W.Write.contents g.W.Sink.failures g.W.Sink.holds c.args.out.now) (output_of g.W.Write.contents g.W.Sink.failures g.W.Sink.holds c.print_why.new.out) c.print_why.result
     (λ lines status is. (
-      was_reasoned given c.args.tag.now c.args.files.now c.args.paths.now c.args.links.now c.in_ok-verdict.verdict c.in_ok-found.found lines status are raised
+      was_reasoned given c.args.tag.now c.args.files.now c.args.wanted.paths.now c.args.links.now c.in_ok-verdict.verdict c.in_ok-found.found lines status are raised
           (record { tidy = judging.tidy; counted = judging.counted; first = judging.first })
           c.in_ok-found.ensures is.0 is.1,
       refl,

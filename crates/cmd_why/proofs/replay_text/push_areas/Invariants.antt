@@ -1,5 +1,5 @@
 -- The lines of the areas so far are added.
-use Rattle.{std.{proofs.Common.{◌≡◌, ◌++◌, take}, specs.List.flat_map}, model_run.specs.Run.Run, model_replay.specs.Worlds.IsWorldOf}
+use Rattle.{std.{proofs.Common.{◌≡◌, ◌++◌, take}, specs.List.flat_map}, model_run.specs.Run.Run, echo_net.specs.Worlds.IsWorldOf}
 use Rattle.cmd_why.specs.Replayed.{area_state_line}
 use Rattle.cmd_why.proofs.replay_text.push_areas.Given as goal
 

@@ -1,5 +1,5 @@
 -- The lines of the systems so far are added.
-use Rattle.{std.proofs.Common.{◌≡◌, ◌++◌, take, map, length}, model_run.specs.Run.{Run, System}, model_replay.specs.Worlds.IsWorldOf}
+use Rattle.{std.proofs.Common.{◌≡◌, ◌++◌, take, map, length}, model_run.specs.Run.{Run, System}, echo_net.specs.Worlds.IsWorldOf}
 use Rattle.cmd_why.specs.Replayed.{systems_from}
 use Rattle.cmd_why.proofs.replay_text.push_systems.Given as goal
 

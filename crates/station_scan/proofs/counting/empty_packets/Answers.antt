@@ -1,5 +1,5 @@
 use Rattle.{std.proofs.Common.{◌≡◌, ◌∙◌, ◌<◌, ◌+◌, [], ◌∷◌, ◌++◌, ap, arith, length, map, subst, sym, take}, station_scan.proofs.Routes.routes_same}
-use Rattle.{std.proofs.lemmas.List.{map-append, map-id, take_all, take_more, Elements.{All-append, All-cons, All-nil}}, echo_toss.specs.Counts.link_set}
+use Rattle.{std.proofs.lemmas.List.{map-append, map-id, take_all, take_more, Elements.{All-append, All-cons, All-nil}}, echo_steps.specs.Counts.link_set}
 use Rattle.station_scan.{specs.{Passing.IsCounted, Sending.route_to, declared.{counting.LinkPacket.LinkPacket, sending.Route.Route}}, proofs.Lists.map_twice}
 use Rattle.station_scan.proofs.counting.empty_packets.Goals as goal
 

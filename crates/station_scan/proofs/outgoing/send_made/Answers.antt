@@ -1,7 +1,7 @@
 use Rattle.std.{proofs.Common.{◌≡◌, Err, Ok, Result, inl, inr, refl, subst, ℕ, arith}, specs.{Prelude.{List, None, OnOk}, List.flat_map}}
 use Rattle.{disk_io.specs.{Device.Failed, declared.disk_error.DiskError.DiskError}, base_store.{specs.Store.all_scanned, proofs.Runs.quiet_disk}}
 use Rattle.{cmd_status.specs.Devices.output_of, cmd_store.specs.{PacketLines.counted_line, Answered.{AnswersOn, AreLines, RefusesNone}, Stops.store_answer}}
-use Rattle.{cmd_store.specs.declared.command_error.CommandError.CommandError, echo_toss.specs.Exports.OutgoingMessage as Sent}
+use Rattle.{cmd_store.specs.declared.command_error.CommandError.CommandError, echo_steps.specs.Exports.OutgoingMessage as Sent}
 use Rattle.station_scan.specs.{Passing.{AreCounted, IsAllOf, IsPartOf, IsStagingTo, counts_in}, declared.scan_error.ScanError.TheVariants.{Command, Staying}}
 use Rattle.station_scan.proofs.Passes.{can_still, gone_or_same, passed_part, staged_keeps, staged_more}
 use Rattle.station_scan.proofs.Reports.{lines_answer, no_damage, scans_sent, scans_unprinted, staying_why}

@@ -1,5 +1,5 @@
 use Rattle.{std.{proofs.{Common.{ℕ, arith, refl, subst, sym}, lemmas.Result.err_from_is_err_and}, specs.Prelude.IsErrOf}, base_file.specs.Base.Base}
-use Rattle.{disk_io.specs.Disk.Honestly, disk_atomic.specs.declared.placing_error.PlacingError.TheVariants.Taken, echo_toss.specs.Counts.IsGroupFrom}
+use Rattle.{disk_io.specs.Disk.Honestly, disk_atomic.specs.declared.placing_error.PlacingError.TheVariants.Taken, echo_steps.specs.Counts.IsGroupFrom}
 use Rattle.station_scan.proofs.Passes.{IsPassing, passing_next, passing_over, passing_staged, passing_starts, read_can, read_making, read_staged, written_staged, written_taken}
 use Rattle.station_scan.proofs.passing.pass_on.Goals as goal
 

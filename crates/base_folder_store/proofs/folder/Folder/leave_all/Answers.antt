@@ -74,4 +74,4 @@ returns-clause-changed g c honest =
     let many = many_readable keyed d0 f base (paired.readable (before.run.outside.honest honest)) here in
     let past = c.messages-test.false in
     let at : c.messages.place ≡ length base.messages = omega (arith, many, past, c.count-place-end.ensures, c.messages.auto.place-end) in
-    before.changed honest keyed base holds ∙ ap (λ (n : ℕ). changed_in base n) at
+    before.changed honest keyed base holds ∙ ap (λ (n : ℕ). changed_in c.args.range.now base n) at

@@ -1,8 +1,9 @@
-use Rattle.std.proofs.Common.{◌≡◌, ◌<◌, ◌≤◌, ◌+◌, ◌/◌, ℕ, List, nat_lt, not, ◌&&◌, length, get_or, refl, sym, ap, subst, ◌∙◌, arith, below_more, lt-ltb}
+use Rattle.std.proofs.Common.{◌≡◌, ◌<◌, ◌≤◌, ◌+◌, ◌/◌, ℕ, List, nat_lt, ◌&&◌, length, get_or, refl, sym, ap, subst, ◌∙◌, arith, below_more, lt-ltb}
 use Rattle.disk_io.specs.Disk.{DiskState}
-use Rattle.echo_filed.specs.{Filed.Filed, Stored.Stored, Stored.message_in, Stored.stored_bytes, declared.stored.Version.TheVariants.Second, Stubs.is_stub}
+use Rattle.echo_filed.specs.{Filed.Filed, Stored.Stored, Stored.message_in, Stored.stored_bytes, declared.stored.Version.TheVariants.Second}
 use Rattle.base_log.{specs.{Standing.BaseBytes, declared.log.End.End}, proofs.Quiet.base_quiet}
-use Rattle.base_file.specs.{Alone.IsStoredAlone, Base.Base}
+use Rattle.base_file.{specs.{Alone.IsStoredAlone, Base.Base, Purging.{is_changed, purge_end}, declared.range.PurgeRange.PurgeRange}, proofs.StubBases.end_within}
+use Rattle.std.proofs.lemmas.Bool.{ltb-true}
 use Rattle.base_store.{specs.Keys.{HasBytesOf, AreWhereRecorded, digest_at}, proofs.Causes.failed_since}
 use Rattle.base_folder_store.specs.{Answers.IsStoredOf, Calls.StagesOnly, Held.HoldsBase, Left.HoldsLeft, Left.IsLeftOf, Left.AreLegible, Left.IsLegibleAt, Left.IsPurgedTo, Left.left_if, Vouched.AreBytesAt}
 use Rattle.base_folder_store.specs.{Opened.committed_by, Opened.held_by, Opened.path_of, declared.folder.Folder.Folder, declared.leaving.PurgedBytes.PurgedBytes, declared.reading.StoredBytes.StoredBytes}
@@ -27,14 +28,14 @@ left g c =
     let quiet = c.stored.ensures.quiet in
     run_twice (path_of n) (path_of n) d0 d1 (g.D.Disk.state c.stage_left.new.disk) (committed_by d0 n) (committed_by d1 n) refl (run_quiet d0 d1 n c.requires.purged.opened quiet) c.stage_left.ensures.run (λ honest. base_quiet d0 d1 (path_of n) n.end.recorded quiet)
 
-record Message (d : DiskState) (f n : Folder) (place : ℕ) (keyed : ℕ → ℕ → List ℕ → ℕ) (base : Base) : Type 0 where
+record Message (range : PurgeRange) (d : DiskState) (f n : Folder) (place : ℕ) (keyed : ℕ → ℕ → List ℕ → ℕ) (base : Base) : Type 0 where
   holds : HoldsBase keyed (committed_by d f) base
   recorded : AreWhereRecorded base.messages (held_by d f).messages (held_by d f).keys
   within : place < length base.messages
-  left : HoldsLeft keyed base (committed_by d f) place (held_by d n)
+  left : HoldsLeft range keyed base (committed_by d f) place (held_by d n)
 
-message : (d : DiskState) (f n : Folder) (place : ℕ) → IsPurgedTo d f n place → place < f.keys / 16 → d.is_honest → (keyed : ℕ → ℕ → List ℕ → ℕ) (base : Base) → HoldsBase keyed (committed_by d n) base → Message d f n place keyed base
-message d f n place purged inside honest keyed base holds =
+message : (range : PurgeRange) (d : DiskState) (f n : Folder) (place : ℕ) → IsPurgedTo range d f n place → place < f.keys / 16 → d.is_honest → (keyed : ℕ → ℕ → List ℕ → ℕ) (base : Base) → HoldsBase keyed (committed_by d n) base → Message range d f n place keyed base
+message range d f n place purged inside honest keyed base holds =
     let paired = purged.paired in
     let same = committed_others d f n paired.others in
     let here = subst (λ (b : BaseBytes). HoldsBase keyed b base) same holds in
@@ -44,7 +45,7 @@ message d f n place purged inside honest keyed base holds =
       holds = here;
       recorded = recorded_readable keyed d f base readable here;
       within = omega (arith, many, inside);
-      left = subst (λ (b : BaseBytes). HoldsLeft keyed base b place (held_by d n)) same (purged.left honest keyed base holds);
+      left = subst (λ (b : BaseBytes). HoldsLeft range keyed base b place (held_by d n)) same (purged.left honest keyed base holds);
     }
 
 pub stage_left-requires : goal.stage_left-requires
@@ -53,14 +54,14 @@ stage_left-requires g c = grind (arith, open_quiet)
 record Here (g : given.Over) (c : After-stage_left g) (base : Base) : Type 0 where
   s : Stored
   is : (d : Filed) → get_or base.messages c.args.place d ≡ message_in Second s
-  left : IsLeftOf (nat_lt c.args.place c.args.self.now.end.recorded.cursor) s c.in_ok-left.left
+  left : IsLeftOf c.args.range.now.area (nat_lt c.args.place c.end-end.result) s c.in_ok-left.left
   bytes : c.deref.result.now ≡ c.in_ok-left.left.bytes.items
   represented : Stored
   has : HasBytesOf (committed_by (g.D.Disk.state c.args.disk.now) c.args.self.now).messages (committed_by (g.D.Disk.state c.args.disk.now) c.args.self.now).keys c.args.place represented
   shorter : length c.deref.result.now ≤ length (stored_bytes Second represented)
 
 here : (g : given.Over) (c : After-stage_left g) (h1 : (g.D.Disk.state c.stored.new.disk).is_honest) (keyed : ℕ → ℕ → List ℕ → ℕ) (base : Base)
-    → Message (g.D.Disk.state c.args.disk.now) c.args.self.now c.args.next.now c.args.place keyed base → Here g c base
+    → Message c.args.range.now (g.D.Disk.state c.args.disk.now) c.args.self.now c.args.next.now c.args.place keyed base → Here g c base
 here g c h1 keyed base m =
     let f = c.args.self.now in
     let d0 = g.D.Disk.state c.args.disk.now in
@@ -100,7 +101,7 @@ pub returns-in_err-stored-clause-cause : goal.returns-in_err-stored-clause-cause
 returns-in_err-stored-clause-cause g c =
     purge_cause (g.D.Disk.state c.stored.new.disk) (committed_by (g.D.Disk.state c.args.disk.now) c.args.next.now) _ _ _ c.from_residual.result c.from_residual.ensures.1 c.in_err-stored.ensures.cause
     (λ honest is keyed base holds.
-    let m = message (g.D.Disk.state c.args.disk.now) c.args.self.now c.args.next.now c.args.place c.requires.purged c.requires.within (c.stored.ensures.quiet.honest honest) keyed base holds in
+    let m = message c.args.range.now (g.D.Disk.state c.args.disk.now) c.args.self.now c.args.next.now c.args.place c.requires.purged c.requires.within (c.stored.ensures.quiet.honest honest) keyed base holds in
     not_damaged (λ (stored : StoredBytes). IsStoredOf base.messages c.args.place stored.bytes.items) _ (c.in_err-stored.ensures.stored honest base.messages m.recorded m.within) is)
 
 pub returns-in_err-left-clause-cause : goal.returns-in_err-left-clause-cause
@@ -108,9 +109,9 @@ returns-in_err-left-clause-cause g c = record {
   later = c.stored.ensures.cause.later;
   failed = λ is. absurd (c.in_err-left.ensures.device (handed_on _ _ c.from_residual-in_err-left.result c.from_residual-in_err-left.ensures.1 is));
   damaged = λ honest is keyed base holds.
-      let m = message (g.D.Disk.state c.args.disk.now) c.args.self.now c.args.next.now c.args.place c.requires.purged c.requires.within (c.stored.ensures.quiet.honest honest) keyed base holds in
+      let m = message c.args.range.now (g.D.Disk.state c.args.disk.now) c.args.self.now c.args.next.now c.args.place c.requires.purged c.requires.within (c.stored.ensures.quiet.honest honest) keyed base holds in
       let of = c.in_ok-stored.ensures.stored honest base.messages m.recorded m.within in
-      not_damaged (λ (left : PurgedBytes). IsLeftOf (nat_lt c.args.place c.args.self.now.end.recorded.cursor) of.s left) _ (c.in_err-left.ensures.left of.s of.size of.alone of.same)
+      not_damaged (λ (left : PurgedBytes). IsLeftOf c.args.range.now.area (nat_lt c.args.place c.end-end.result) of.s left) _ (c.in_err-left.ensures.left of.s of.size of.alone of.same)
       (handed_on _ _ c.from_residual-in_err-left.result c.from_residual-in_err-left.ensures.1 is);
 }
 
@@ -132,11 +133,11 @@ returns-in_err-stage_left-clause-cause g c =
           let f = c.args.self.now in
           let n = c.args.next.now in
           let place = c.args.place in
-          let m = message d0 f n place c.requires.purged c.requires.within h0 keyed base holds in
+          let m = message c.args.range.now d0 f n place c.requires.purged c.requires.within h0 keyed base holds in
           let at = here g after h1 keyed base m in
           let opened = c.requires.purged.opened h0 in
           let legible = legible_open d0 n opened in
-          room_left keyed base (committed_by d0 c.args.self.now) (held_by d0 n) n c.args.place (length c.deref.result.now) at.represented m.holds m.left m.within at.has at.shorter (messages_all d0 n legible) (keys_all d0 n legible) opened.keys
+          room_left c.args.range.now keyed base (committed_by d0 c.args.self.now) (held_by d0 n) n c.args.place (length c.deref.result.now) at.represented m.holds m.left m.within at.has at.shorter (messages_all d0 n legible) (keys_all d0 n legible) opened.keys
           (c.in_err-stage_left.ensures.damaged (handed_on _ _ c.from_residual-in_err-stage_left.result c.from_residual-in_err-stage_left.ensures.1 is));
     }
 
@@ -147,20 +148,31 @@ legible_more : (held : BaseBytes) (place : ℕ) (bytes : List ℕ) → AreLegibl
 legible_more held place bytes before at one =
     below_more (λ i. i < held.cursor → IsLegibleAt held i) place before (λ below. let m = one below in record { bytes = bytes; at = at; message = m.0; stored = m.1 })
 
-scanned_below : (d : DiskState) (f : Folder) (place : ℕ) (keyed : ℕ → ℕ → List ℕ → ℕ) (base : Base) → HoldsBase keyed (committed_by d f) base → IsBelow (nat_lt place f.end.recorded.cursor) place base.cursor
-scanned_below d f place keyed base holds = subst (λ (n : ℕ). IsBelow (nat_lt place f.end.recorded.cursor) place n) holds.cursor (is_below place f.end.recorded.cursor)
+end_below_is : (range : PurgeRange) (d : DiskState) (f : Folder) (place end : ℕ) (keyed : ℕ → ℕ → List ℕ → ℕ) (base : Base) → end ≡ purge_end range f.end.recorded.cursor → HoldsBase keyed (committed_by d f) base
+    → IsBelow (nat_lt place end) place (purge_end range base.cursor)
+end_below_is range d f place end keyed base is holds =
+    subst (λ (n : ℕ). IsBelow (nat_lt place end) place n) (is ∙ ap (λ (n : ℕ). purge_end range n) holds.cursor) (is_below place end)
+
+pub left_of-requires : goal.left_of-requires
+left_of-requires g c before =
+    let cursor = c.args.self.now.end.recorded.cursor in
+    let least = end_within c.args.range.now.below cursor in
+    let less = ltb-true c.args.place c.end-end.result before in
+    lt-ltb c.args.place cursor (omega (arith, least, less, c.end-end.ensures))
 
 pub returns-clause-changed : goal.returns-clause-changed
 returns-clause-changed g c honest =
     let after = (goal.at.returns-clause-changed g c).After-stage_left in
     let h1 = c.stage_left.ensures.run.outside.honest honest in
     λ keyed base holds.
-    let m = message (g.D.Disk.state c.args.disk.now) c.args.self.now c.args.next.now c.args.place c.requires.purged c.requires.within (c.stored.ensures.quiet.honest h1) keyed base holds in
+    let m = message c.args.range.now (g.D.Disk.state c.args.disk.now) c.args.self.now c.args.next.now c.args.place c.requires.purged c.requires.within (c.stored.ensures.quiet.honest h1) keyed base holds in
     let at = here g after h1 keyed base m in
     let d : Filed = some_message base.messages c.args.place m.within in
-    let scanned = nat_lt c.args.place c.args.self.now.end.recorded.cursor in
-    changed_step base c.args.place d scanned c.in_ok-left.left.changed m.within (scanned_below (g.D.Disk.state c.args.disk.now) c.args.self.now c.args.place keyed base m.holds)
-    (at.left.changed ∙ ap (λ (x : Filed). scanned && not (is_stub x)) (sym (at.is d)))
+    let range = c.args.range.now in
+    let before = nat_lt c.args.place c.end-end.result in
+    changed_step range base c.args.place d before c.in_ok-left.left.changed m.within
+    (end_below_is range (g.D.Disk.state c.args.disk.now) c.args.self.now c.args.place c.end-end.result keyed base c.end-end.ensures m.holds)
+    (at.left.changed ∙ ap (λ (x : Filed). before && is_changed range.area x) (sym (at.is d)))
 
 pub returns-clause-purged : goal.returns-clause-purged
 returns-clause-purged g c =
@@ -191,22 +203,23 @@ returns-clause-purged g c =
           let h1 = staged.run.outside.honest honest in
           let h0 = quiet.honest h1 in
           let same = c.in_ok-stage_left.ensures.same honest ∙ base_quiet d0 d1 (path_of n) n.end.recorded quiet in
-          let m = message d0 f n place c.requires.purged c.requires.within h0 keyed base (subst (λ (b : BaseBytes). HoldsBase keyed b base) same holds) in
+          let m = message c.args.range.now d0 f n place c.requires.purged c.requires.within h0 keyed base (subst (λ (b : BaseBytes). HoldsBase keyed b base) same holds) in
           let at = here g after h1 keyed base m in
           let d : Filed = some_message base.messages place m.within in
           let one = get_or base.messages place d in
-          let scanned = nat_lt place f.end.recorded.cursor in
+          let range = c.args.range.now in
+          let before = nat_lt place c.end-end.result in
           let bytes = c.deref.result.now in
           let more = c.in_ok-stage_left.ensures.staged honest in
           let held : held_by d1 n ≡ held_by d0 n = held_quiet d0 d1 n quiet in
-          let was_held = subst (λ (b : BaseBytes). HoldsLeft keyed base (committed_by d0 f) place b) (sym held) m.left in
-          let stored = subst (λ (x : Filed). IsStoredAlone (left_if scanned x) bytes) (sym (at.is d)) (subst (λ (l : List ℕ). IsStoredAlone (left_if scanned (message_in Second at.s)) l) (sym at.bytes) at.left.stored) in
+          let was_held = subst (λ (b : BaseBytes). HoldsLeft range keyed base (committed_by d0 f) place b) (sym held) m.left in
+          let stored = subst (λ (x : Filed). IsStoredAlone (left_if range.area before x) bytes) (sym (at.is d)) (subst (λ (l : List ℕ). IsStoredAlone (left_if range.area before (message_in Second at.s)) l) (sym at.bytes) at.left.stored) in
           let recorded = recorded_where keyed (committed_by d0 f) base m.holds in
-          subst (λ (b : BaseBytes). HoldsLeft keyed base b (place + 1) (held_by d2 c.stage_left.new.self)) (sym (same ∙ committed_others d0 f n was.others))
+          subst (λ (b : BaseBytes). HoldsLeft range keyed base b (place + 1) (held_by d2 c.stage_left.new.self)) (sym (same ∙ committed_others d0 f n was.others))
           (record {
             left =
-                left_more keyed (committed_by d0 f) (held_by d1 n) (held_by d2 c.stage_left.new.self) base place c.in_ok-stored.stored.digest d bytes scanned m.holds was.others.mark m.within was_held.left
-                (scanned_below (g.D.Disk.state c.args.disk.now) c.args.self.now c.args.place keyed base m.holds) stored
+                left_more range keyed (committed_by d0 f) (held_by d1 n) (held_by d2 c.stage_left.new.self) base place c.in_ok-stored.stored.digest d bytes before m.holds was.others.mark m.within was_held.left
+                (end_below_is range (g.D.Disk.state c.args.disk.now) c.args.self.now c.args.place c.end-end.result keyed base c.end-end.ensures m.holds) stored
                 ((c.in_ok-stored.ensures.at h1).digest ∙ ap (λ (b : BaseBytes). digest_at b.keys place) (readable_held d0 f (was.readable h0))) more.staged more.fits;
             shorter = λ within. shorter_more base.messages (committed_by d0 f) (held_by d1 n) (held_by d2 c.stage_left.new.self) place c.in_ok-stored.stored.digest bytes at.represented recorded at.has (was_held.shorter m.within) at.shorter more.staged within;
           });

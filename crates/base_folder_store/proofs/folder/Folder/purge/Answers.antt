@@ -22,7 +22,7 @@ leave_all-requires g c =
       few = let none = ap (λ (l : List ℕ). length l) c.in_ok-commit.ensures.done.written.messages in let counted = c.is_counted.ensures in omega (arith, none, counted);
       left = λ honest keyed base holds. record {
         left =
-            left_none keyed (committed_by e next) (held_by e next) base holds
+            left_none c.args.range.now keyed (committed_by e next) (held_by e next) base holds
             (made.empty ∙ ap (λ (end : End). record { messages = []; keys = []; cursor = 0; mark = end.recorded.mark }) (sym made.paired.others.end));
         shorter = λ within. let none = ap (λ (b : BaseBytes). length b.messages) made.empty in omega (arith, none);
       };
@@ -131,14 +131,14 @@ returns-clause-purged g c honest =
     let made = (left g (goal.at.returns-clause-purged g c).After-leave_all).same honest in
     let here = subst (λ (b : BaseBytes). HoldsBase keyed b base) (sym (c.in_ok-changed.ensures.same honest ∙ made)) holds in
     let many = many_readable keyed d1 f1 base (rest_readable d1 f1 (c.in_ok-commit.ensures.stays.opened h1) c.in_ok-commit.ensures.done.recorded c.in_ok-commit.ensures.done.written) was in
-    let all = subst (λ (n : ℕ). HoldsBase keyed (held_by d3 n3) (first_left base n)) many (purged.left honest keyed base here).left in
+    let all = subst (λ (n : ℕ). HoldsBase keyed (held_by d3 n3) (first_left c.args.range.now base n)) many (purged.left honest keyed base here).left in
     let now : Folder = record n3 { recorded = record n3.recorded { cursor = f1.end.recorded.cursor } } in
-    left_whole keyed (committed_by d1 f1) (held_by d3 n3) (held_by d3 now) base was all refl
+    left_whole c.args.range.now keyed (committed_by d1 f1) (held_by d3 n3) (held_by d3 now) base was all refl
 
 pub returns-clause-count : goal.returns-clause-count
 returns-clause-count g c honest =
     let same = (left g (goal.at.returns-clause-count g c).After-leave_all).same honest in
-    λ keyed base holds. c.in_ok-changed.ensures.changed honest keyed base (subst (λ (b : BaseBytes). HoldsBase keyed b base) (sym same) holds) ∙ changed_whole base
+    λ keyed base holds. c.in_ok-changed.ensures.changed honest keyed base (subst (λ (b : BaseBytes). HoldsBase keyed b base) (sym same) holds) ∙ changed_whole c.args.range.now base
 
 pub returns-clause-read : goal.returns-clause-read
 returns-clause-read g c honest =

@@ -1,4 +1,4 @@
-use Rattle.{std.proofs.Common.arith, echo_toss.proofs.Bounds.past_wider}
+use Rattle.{std.proofs.Common.arith, echo_steps.proofs.Bounds.past_wider}
 use Rattle.cmd_store.proofs.mail_posting.PostMailStoreCommand.run.Goals as goal
 
 pub returns-clause-many : goal.returns-clause-many

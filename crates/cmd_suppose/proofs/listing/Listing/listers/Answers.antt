@@ -1,4 +1,4 @@
-use Rattle.{std.proofs.Common.{List, map}, echo_net.{specs.declared.link.Link.Link, proofs.Drawings.held_again}, cmd_suppose.proofs.Listers.run_ends}
+use Rattle.{std.proofs.Common.{List, map}, echo_verdict.{specs.declared.link.Link.Link, proofs.Drawings.held_again}, cmd_suppose.proofs.Listers.run_ends}
 use Rattle.cmd_suppose.proofs.listing.Listing.listers.Goals as goal
 
 pub returns-clause-members : goal.returns-clause-members

@@ -1,5 +1,0 @@
-use Rattle.{cmd_status.proofs.Lines.none_begun, base_folder_store.proofs.Causes.at_error}
-use Rattle.cmd_show.proofs.listing.print_message.Goals as goal
-
-pub returns-in_err-push_listed-clause-begun : goal.returns-in_err-push_listed-clause-begun
-returns-in_err-push_listed-clause-begun g c = at_error c.from_residual.result (none_begun _ _)

@@ -1,9 +1,0 @@
-use Rattle.std.proofs.{Common.ap, Common.length, Common.sym, Common.◌∙◌, lemmas.Bool.eqb-true}
-use Rattle.echo_text.proofs.TextLines.{no_lines}
-use Rattle.echo_export.specs.Label.{label_of}
-use Rattle.echo_export.proofs.label.label.Goals as goal
-
-pub returns : goal.returns
-returns c =
-    let none = no_lines c.lines.rest.now (eqb-true (length c.lines.rest.now) 0 (sym c.is_empty.ensures ∙ c.lines-test.false)) in
-    sym (ap label_of none) ∙ c.lines.invariant

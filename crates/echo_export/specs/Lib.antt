@@ -1,5 +1,0 @@
-pub mod Label
-pub mod JsonLine
-pub mod MailText
-pub mod HeaderText
-pub mod Forms

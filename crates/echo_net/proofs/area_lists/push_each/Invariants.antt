@@ -1,6 +1,0 @@
-use Rattle.std.proofs.Common.{◌≡◌, ◌++◌, map, take}
-use Rattle.echo_net.specs.Nets.{link}
-use Rattle.echo_net.proofs.area_lists.push_each.Given as goal
-
-abbrev pub invariant-listed : goal.invariant-listed
-invariant-listed l = l.all.items ≡ l.initial.all.items ++ map (link l.initial.from) (take l.to-index l.listed)

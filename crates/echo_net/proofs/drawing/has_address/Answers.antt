@@ -1,5 +1,0 @@
-use Rattle.echo_net.proofs.Drawings.{address_reported}
-use Rattle.echo_net.proofs.drawing.has_address.Goals as goal
-
-pub returns : goal.returns
-returns c = address_reported c.args.all.now c.args.address c.holds.result c.holds.ensures

@@ -1,5 +1,0 @@
-use Rattle.echo_net.proofs.Drawings.{link_reported}
-use Rattle.echo_net.proofs.drawing.has_link.Goals as goal
-
-pub returns : goal.returns
-returns c = link_reported c.args.all.now c.args.link c.holds.result c.holds.ensures

@@ -1,6 +1,0 @@
-use Rattle.std.proofs.Common.{◌≡◌, ◌++◌, map, take}
-use Rattle.echo_net.specs.AllFaults.{fault_of}
-use Rattle.echo_net.proofs.each_fault.push_faults.Given as goal
-
-abbrev pub invariant-links : goal.invariant-links
-invariant-links l = l.all.items ≡ l.initial.all.items ++ map (fault_of l.initial.kind) (take l.link-index l.links)

@@ -1,5 +1,0 @@
-use Rattle.echo_net.{specs.declared.owners.Owner.Owner, proofs.Twins.AreAlikeBefore}
-use Rattle.echo_net.proofs.owners.shared.Given as goal
-
-abbrev pub invariant-loop-place : goal.invariant-loop-place
-invariant-loop-place l = AreAlikeBefore (λ (o : Owner). o.system) (λ (o : Owner). o.system) l.owners l.place l.shared.items

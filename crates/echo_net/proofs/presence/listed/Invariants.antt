@@ -1,5 +1,0 @@
-use Rattle.echo_net.proofs.Orders.{AreListed}
-use Rattle.echo_net.proofs.presence.listed.Given as goal
-
-abbrev pub invariant-carriers : goal.invariant-carriers
-invariant-carriers l = AreListed l.nodelist l.carriers.items l.place l.all.items

@@ -1,5 +1,0 @@
-use Rattle.echo_net.proofs.Orders.{there_where_placed}
-use Rattle.echo_net.proofs.searching.holds.Goals as goal
-
-pub returns : goal.returns
-returns g c = there_where_placed c.args.values.now c.args.value.now c.place.result c.place.ensures c.is_some.result c.is_some.ensures

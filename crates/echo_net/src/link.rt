@@ -1,8 +1,0 @@
-use echo_addr::Address;
-
-/// A link of an area: the system that lists it, and the system that is listed.
-#[derive(Clone, Copy, PartialEq, Eq, PartialOrd, Ord)]
-pub struct Link {
-    pub from: Address,
-    pub to: Address,
-}

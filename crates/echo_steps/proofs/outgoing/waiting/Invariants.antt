@@ -1,0 +1,21 @@
+use Rattle.std.specs.Prelude.{All}
+use Rattle.echo_steps.specs.Ways.{IsWay}
+use Rattle.std.proofs.Common.{◌≡◌, ◌≤◌, ◌-◌, ◌++◌, length, drop}
+use Rattle.disk_io.specs.Disk.{Honestly}
+use Rattle.base_file.specs.Base.{Base}
+use Rattle.base_store.specs.Store.{LooksOn}
+use Rattle.echo_steps.specs.Exports.{sent_of}
+use Rattle.echo_steps.proofs.outgoing.waiting.Given as goal
+
+abbrev pub invariant-waiting : goal.invariant-waiting
+invariant-waiting g l =
+    Honestly (g.T.Store.state l.store).disk ((base : Base) → (g.T.Store.state l.fn.store).keeps base
+    → (l.count ≡ length base.messages)
+    × (l.all.items ++ sent_of l.links (drop l.at base.messages) ≡ sent_of l.links (drop base.cursor base.messages)))
+    × LooksOn (g.T.Store.state l.fn.store) (g.T.Store.state l.store)
+    × (g.T.Store.failures l.fn.store ≤ g.T.Store.failures l.store)
+    × ((g.T.Store.state l.fn.store).is_sound → (g.T.Store.state l.store).is_sound)
+    × All (IsWay l.links) l.ways.items
+
+abbrev pub decreases-waiting : goal.decreases-waiting
+decreases-waiting g l = l.count - l.at

@@ -1,6 +1,0 @@
-use Rattle.std.proofs.Common.{◌≡◌, [], map, take}
-use Rattle.echo_toss.specs.Counts.{counted_to}
-use Rattle.echo_toss.proofs.counting.none_counted.Given as goal
-
-abbrev pub invariant-addresses : goal.invariant-addresses
-invariant-addresses l = l.all.items ≡ map (counted_to []) (take l.to-index l.addresses)

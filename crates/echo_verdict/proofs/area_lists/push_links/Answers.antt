@@ -1,0 +1,9 @@
+use Rattle.std.proofs.{Common.arith, lemmas.List.append-nil}
+use Rattle.echo_verdict.proofs.Collected.{links_found}
+use Rattle.echo_verdict.proofs.area_lists.push_links.Goals as goal
+
+pub returns-in-Some-clause-links : goal.returns-in-Some-clause-links
+returns-in-Some-clause-links = grind (arith, links_found)
+
+pub returns-in-None-clause-links : goal.returns-in-None-clause-links
+returns-in-None-clause-links = grind (arith, links_found, append-nil)

@@ -1,0 +1,10 @@
+pub mod Nets
+pub mod Firsts
+pub mod Pairs
+pub mod Rows
+pub mod Faults
+pub mod Absent
+pub mod Printed
+pub mod Drawn
+pub mod Joining
+pub mod AllFaults

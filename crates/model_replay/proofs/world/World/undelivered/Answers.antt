@@ -1,9 +1,0 @@
-use Rattle.std.{proofs.Common.{ap, ◌∙◌, not, List}, specs.Prelude.count_by}
-use Rattle.model_replay.{specs.Worlds.{Exported, WorldState}, proofs.Readings.missing-is}
-use Rattle.model_replay.proofs.world.World.undelivered.Goals as goal
-
-pub returns : goal.returns
-returns c = λ run is.
-    c.count_missing.ensures
-    ∙ ap (λ (es : List Exported). count_by (λ e. not e.came) es) (c.deref.ensures.value ∙ ap (λ (w : WorldState). w.packets) c.self.view_is)
-    ∙ missing-is c.args.self.now run is

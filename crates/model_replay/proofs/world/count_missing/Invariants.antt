@@ -1,8 +1,0 @@
-use Rattle.std.{proofs.Common.{◌≡◌, ◌≤◌, not, take}, specs.Prelude.count_by}
-use Rattle.model_replay.proofs.world.count_missing.Given as goal
-
-abbrev pub invariant-packets : goal.invariant-packets
-invariant-packets l = record {
-  count : l.count ≡ count_by (λ e. not e.came) (take l.packet-index l.packets);
-  bound : l.count ≤ l.packet-index;
-}

@@ -1,4 +1,0 @@
-pub mod Worlds
-pub mod Taken
-pub mod Script
-pub mod Counts

@@ -1,0 +1,3 @@
+//! Nets: the verdicts on them, and what becomes of scripts.
+mod replays;
+mod verdicts;

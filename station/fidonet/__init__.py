@@ -1,0 +1,1 @@
+"""The formats of FidoNet: addresses, packets, stored messages, JAM bases and the lines of echomail."""
