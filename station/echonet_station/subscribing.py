@@ -1,4 +1,5 @@
-"""Gives links areas, and takes them away: each is one change of the link file, which is judged first."""
+"""Gives links areas, and takes them away: each is one change of the link file, which is judged first. So a kill leaves what
+was printed."""
 from __future__ import annotations
 
 import os
