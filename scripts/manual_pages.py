@@ -10,10 +10,10 @@ import sys
 sys.dont_write_bytecode = True
 TOP = os.path.dirname(os.path.dirname(os.path.abspath(__file__)))
 sys.path.insert(0, os.path.join(TOP, "station"))
-from echonet_station.word import Word  # noqa: E402
+from echonet_station.word import ALL_STATUSES, Word  # noqa: E402
 from echonet_station.words import WORDS  # noqa: E402
 
-COMMANDS = '.\\" scripts/manual_pages.py puts the commands here.\n'
+COMMANDS = '.\\" scripts/manual_pages.py puts the commands here, and the statuses.\n'
 TOOLS = {
     "links-from": "a link file from the configuration of another tosser",
     "links-seen": "link files from the PATH lines of echomail",
@@ -46,12 +46,18 @@ def command(word: Word) -> str:
     return "\n".join(lines) + "\n"
 
 
+def statuses() -> str:
+    """The part of the exit statuses."""
+    pairs = (line.split("  ", 1) for line in ALL_STATUSES)
+    return ".SH EXIT STATUS\n" + "".join(".TP\n.B %s\n%s\n" % (number, roff(text)) for number, text in pairs)
+
+
 def station_page() -> str:
     """The page of echonet-station."""
     with open(os.path.join(TOP, "docs", "echonet-station.1"), encoding="utf-8") as file:
         frame = file.read()
     before, after = frame.split(COMMANDS)
-    return before + "".join(command(word) for word in WORDS) + after
+    return before + "".join(command(word) for word in WORDS) + statuses() + after
 
 
 def title(name: str) -> str:
