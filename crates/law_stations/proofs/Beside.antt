@@ -8,7 +8,7 @@ use Rattle.model_run.specs.Repair.{AllSendOther, Besides, RepairEvent, ResendAll
 use Rattle.model_run.specs.Repair as model
 use Rattle.model_run.proofs.{Bases.event-ok, BesideRepairs.beside-orderly, Lists.nth-among, Reaching.repairs-append, Repairs.resent-ok, Targets.some_same, TosserLaws.the_laws}
 use Rattle.law_stations.specs.{Agreement.{Agrees, HasSystem, IsPacketFile}, AnyDisks.{all_packets, disks_at}, AnyNets.{KeyInOrder, KeyIsSettled, links_at}, Beside.{HeadlineBesideRepairs, MayHappenBeside, ResendsOther, called}}
-use Rattle.law_stations.specs.{Commands.CommandEvent, Disks.{Disks, with_packet}, InOrder.{HasUnchanged, ReadsAs, WasPurged}, Nets.{Net, Paired}, OverCrashes.IsLikeEvent, Repairs.{AreAnyDisks, Calls, RepairCommand, Resend, Resends}}
+use Rattle.law_stations.specs.{Commands.CommandEvent, Disks.{Disks, with_packet}, InOrder.{HasUnchanged, ReadsAs, WasPurged}, Nets.{Net, Paired, Station}, OverCrashes.IsLikeEvent, Repairs.{AreAnyDisks, Calls, RepairCommand, Resend, Resends}}
 use Rattle.law_stations.proofs.{AnyDisks.in-order, AnyNets.{has-settled, new, systems-filed}, EachCommand.{followed, has-net}, EachEvent.led-all, Headline.{all-read, checked}, Pairs.paired-nth, Places.addresses-stay}
 use Rattle.law_stations.proofs.{Repairs.{Runs, after-besides, begun, bytes_of, good, one-more, resent, runs, their-files}, Sound.{is-unchanged, reads, represented}, Systems.one-file, Tracking.paired-so, Unpurged.{AsFiledAt, IsAsFiled}}
 
