@@ -9,6 +9,7 @@ cd "$(dirname "$0")/.."
 # before.
 rows='
 tests      | test_trials library_tour | trials; the library in one program
+           | test_tossers test_formats | worked examples of the library
 program    | echonet cmd_words | picks the command; the command line
            | cmd_station cmd_net cmd_export cmd_notes | the commands on the files of the system
            | cmd_jam cmd_door cmd_packets cmd_base cmd_input | JAM bases; packets; bases; files, locks, clock, progress

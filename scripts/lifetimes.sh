@@ -7,9 +7,9 @@ page=crates/echo_text/must-fail/view_outlives_its_text.md
 copy=$(mktemp -d)
 trap 'rm -rf "$copy"' EXIT
 mkdir "$copy/crates"
-grep -E '^(echo_addr|echo_text):' crates.txt > "$copy/crates.txt"
+grep -E '^(disk_io|echo_addr|echo_text):' crates.txt > "$copy/crates.txt"
 cp HANDLES "$copy"
-cp -a crates/echo_addr crates/echo_text "$copy/crates"
+cp -a crates/disk_io crates/echo_addr crates/echo_text "$copy/crates"
 sed -n '/^    pub fn/,/^    }$/s/^    //p' "$page" >> "$copy/crates/echo_text/src/reading.rt"
 wanted=$(sed -n 's/^    error/error/p' "$page")
 [ -n "$wanted" ] || { echo "lifetimes.sh: $page names no error"; exit 1; }

@@ -1,12 +1,12 @@
 -- A message that is read of a base folder is one of the base that the folder holds.
 use Rattle.std.proofs.Common.{◌≡◌, ◌∙◌, ◌<◌, ◌≤◌, ◌+◌, ℕ, List, Result, below_more, Ok, Err, length, get_or, refl, sym, ap, subst, arith, ⊎_elim}
-use Rattle.{std.{proofs.lemmas.{Bool.cases_lt, List.length-take}, specs.Prelude.OnOk}, disk_io.specs.Disk.{DiskState, Honestly, bytes_in}}
+use Rattle.{std.{proofs.lemmas.{Bool.cases_lt, List.length-take}, specs.Prelude.OnOk}, disk_io.specs.Disk.{DiskState, Files, Honestly, bytes_in}}
 use Rattle.{disk_io.specs.Runs.ChangesNothing, echo_filed.specs.{Filed.Filed, declared.stored.Version.TheVariants.Second, Stored.{Stored, message_in}}}
-use Rattle.{base_file.specs.Base.Base, base_log.specs.{Names.keys_of, Standing.{BaseBytes, base_at}}, base_store.specs.Keys.digested}
+use Rattle.{base_file.specs.Base.Base, base_log.specs.{Names.keys_of, Standing.{BaseBytes, Represents, base_at}}, base_store.specs.Keys.digested}
 use Rattle.{base_store.proofs.Recorded.recorded_base_each, base_folder_store.specs.{Ahead.{AreParts, HasParts}, Held.{HoldsBase, digest_by}}}
 use Rattle.base_folder_store.specs.{Opened.{held_by, path_of}, Vouched.{HasDigest, IsLookedAt, IsThere, IsVouched}, declared.folder.Folder.Folder}
 use Rattle.base_folder_store.{specs.declared.read_ahead.Buffers.Buffers, proofs.{Bases.recorded_where, Legible.{held_quiet, keys_all, legible_quiet}}}
-use Rattle.{base_folder_store.proofs.Waits.written_held, base_folder.specs.Source.{AreLegibleTo, IsReadable, LooksAt, SeesBase, SourceState}}
+use Rattle.{base_folder_store.proofs.Waits.written_held, base_folder.specs.{Looked.IsAsShown, Source.{AreLegibleTo, IsReadable, LooksAt, SeesBase, SourceState}}}
 
 pub record ReadAt (keyed : ℕ → ℕ → List ℕ → ℕ) (bytes : BaseBytes) (base : Base) (i : ℕ) : Type 0 where
   pub s : Stored
@@ -25,19 +25,26 @@ read_at keyed bytes base holds i within =
       is = at.is;
     }
 
+pub looked_count : (d : DiskState) (f : Folder) → IsLookedAt d f → Honestly d (f.keys ≡ length (held_by d f).keys)
+looked_count d f looked honest =
+    ⊎_elim
+    (λ (some : 0 < f.keys). sym (keys_all d f (looked.legible honest some)))
+    (λ (none : f.keys ≤ 0).
+    let same : length (held_by d f).keys ≡ length (base_at d (path_of f) f.recorded).keys = ap (λ (b : BaseBytes). length b.keys) (written_held d f looked.written) in
+    let front = length-take f.recorded.keys (bytes_in (d.seen (keys_of (path_of f) f.recorded.number))) in
+    omega (arith, none, same, front, looked.keys))
+    (cases_lt 0 f.keys)
+
 pub looked_sees : (keyed : ℕ → ℕ → List ℕ → ℕ) (d : DiskState) (f : Folder) (base : Base) → IsLookedAt d f → Honestly d (HoldsBase keyed (held_by d f) base → SeesBase keyed d f base)
 looked_sees keyed d f base looked honest holds =
     let many = (recorded_where keyed (held_by d f) base holds).many in
-    record {
-      holds = holds;
-      count = ⊎_elim
-          (λ (some : 0 < f.keys). let long = keys_all d f (looked.legible honest some) in omega (arith, many, long))
-          (λ (none : f.keys ≤ 0).
-          let same : length (held_by d f).keys ≡ length (base_at d (path_of f) f.recorded).keys = ap (λ (b : BaseBytes). length b.keys) (written_held d f looked.written) in
-          let front = length-take f.recorded.keys (bytes_in (d.seen (keys_of (path_of f) f.recorded.number))) in
-          omega (arith, many, none, same, front, looked.keys))
-          (cases_lt 0 f.keys);
-    }
+    let long = looked_count d f looked honest in
+    record { holds = holds; count = omega (arith, many, long) }
+
+pub shown_quiet : (path : List ℕ) (files : Files) (d e : DiskState) (f : Folder) → ChangesNothing d e → IsAsShown path files d f → IsAsShown path files e f
+shown_quiet path files d e f quiet shown =
+    let same = held_quiet d e f quiet in
+    record { represented = subst (λ (b : BaseBytes). Represents path b files) (sym same) shown.represented; count = shown.count ∙ ap (λ (b : BaseBytes). length b.keys) (sym same) }
 
 pub looked_quiet : (d e : DiskState) (f : Folder) → ChangesNothing d e → IsLookedAt d f → IsLookedAt e f
 looked_quiet d e f quiet looked = grind (arith, legible_quiet)

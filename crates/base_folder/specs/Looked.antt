@@ -1,8 +1,9 @@
 -- A base folder after a look.
 use Rattle.std.specs.Prelude.{◌≡◌, ◌≤◌, ◌<◌, ◌/◌, ℕ, Bool, List, length, take}
-use Rattle.{disk_io.specs.Disk.{DiskState, Files, bytes_in}, base_log.specs.Names.log_of}
+use Rattle.{disk_io.specs.{Device.Failed, Disk.{DiskState, Files, Honestly, bytes_in}, Runs.ChangesNothing}, base_log.specs.Names.log_of}
 use Rattle.base_log.specs.{Standing.{BaseBytes, Represents}, Reading.{IsRead, ReadsAll}, declared.log.{End.End, Log.Log}}
 use Rattle.{base_folder_store.specs.{Opened.held_by, Vouched.{HasNone, IsVouched}, declared.folder.Folder.Folder}, base_folder.specs.OpenError.IsWrong}
+use Rattle.base_folder.specs.Wrong.{IsSound}
 use Rattle.base_folder.specs.declared.{looking.LookedFolder.LookedFolder, open_error.OpenError.OpenError}
 use Rattle.base_file.specs.declared.fault.BaseFault.TheVariants as base
 use Rattle.base_folder.specs.declared.open_error.OpenError.TheVariants as unread
@@ -11,6 +12,11 @@ use Rattle.base_folder.specs.declared.open_error.OpenError.TheVariants as unread
 pub record IsReadWhole (log : Log) : Type 0 where
   pub read : IsRead log
   pub within : log.end.records_len ≤ length log.bytes.items
+
+-- The files represent the bytes that the folder has, and it counts all of their entries.
+pub record IsAsShown (path : List ℕ) (files : Files) (disk : DiskState) (folder : Folder) : Type 0 where
+  pub represented : Represents path (held_by disk folder) files
+  pub count : folder.keys ≡ length (held_by disk folder).keys
 
 -- Each message from this number on has the digest in its entry.
 abbrev pub AreVouched : (ℕ → ℕ → List ℕ → ℕ) → DiskState → ℕ → Folder → Type 0
@@ -41,3 +47,18 @@ pub record GoesOn (before after : List ℕ) : Type 0 where
   pub reread : ReadsAll after last
   pub order : first.records_len ≤ last.records_len
   pub front : take first.records_len after ≡ take first.records_len before
+
+-- A reader of a folder that the call began with this disk: the files are sound, it has their bytes, and each message
+-- from this number on has the digest in its entry.
+pub record IsReaderOf (keyed : ℕ → ℕ → List ℕ → ℕ) (strange : Bool) (path : List ℕ) (first : ℕ) (old new : DiskState) (folder : Folder) : Type 0 where
+  pub sound : IsSound strange path old.seen
+  pub shown : IsAsShown path old.seen new folder
+  pub vouched : AreVouched keyed new first folder
+
+-- The call ended with some disk, and changed nothing of it. If that was honest, the fault is one of the folder. It is a
+-- failure of the device only if the count of failures rose.
+pub record IsUnreadOf {D : Type 0} (state : D → DiskState) (failures : D → ℕ) (keyed : ℕ → ℕ → List ℕ → ℕ) (strange : Bool) (path : List ℕ) (old : D) (why : OpenError) : Type 0 where
+  pub disk : D
+  pub quiet : ChangesNothing (state old) (state disk)
+  pub wrong : Honestly (state disk) (IsUnseen keyed strange path (state old).seen why)
+  pub failed : why ≡ unread.Device → Failed (failures old) (failures disk)

@@ -2,7 +2,7 @@
 ghost use Rattle.std.specs.Prelude.{◌≡◌, ◌++◌, ℕ, List, length, take, true, IfErr, IfOk, IfSome, IsSome, OnOk};
 ghost use Rattle.disk_io.specs.{Disk.Honestly, Runs.ChangesNothing};
 ghost use Rattle.{base_log.specs.{Reading.IsLogIn, Standing.{BaseBytes, Represents, base_at}}, base_folder_store.specs.{Opened.held_by, Vouched.IsLookedAt}};
-ghost use Rattle.base_folder.specs.{Looked.{AreVouched, GoesOn, HasLogs, IsReadWhole, IsUnseen}, OpenError.HasUnreadCause, Wrong.IsSound};
+ghost use Rattle.base_folder.specs.{Looked.{AreVouched, GoesOn, HasLogs, IsAsShown, IsReadWhole, IsUnseen}, OpenError.HasUnreadCause, Wrong.IsSound};
 
 use crate::judging::judge_by;
 use crate::open_error::OpenError;
@@ -45,6 +45,7 @@ pub fn look<D: Disk, H: Digest, P: ReadingProgress>(
     ensures found { Honestly (D.state disk.new) ((base : BaseBytes) → Represents path.now base (D.state disk.old).seen
         → IfOk result (λ looked. held_by (D.state disk.new) looked.folder ≡ base)) }
     ensures ready { IfOk result (λ looked. IsLookedAt (D.state disk.new) looked.folder) }
+    ensures shown { Honestly (D.state disk.new) (IfOk result (λ looked. IsAsShown path.now (D.state disk.old).seen (D.state disk.new) looked.folder)) }
     ensures vouched { Honestly (D.state disk.new) (IfOk result (λ looked. AreVouched H.keyed (D.state disk.new) first looked.folder)) }
     ensures steady { IfOk result (λ looked. GoesOn looked.log.items looked.reread.items) }
     ensures logs { Honestly (D.state disk.new) (IfOk result (HasLogs path.now (D.state disk.old).seen)) }
@@ -74,6 +75,7 @@ fn look_once<D: Disk, H: Digest, P: ReadingProgress>(
     ensures found { Honestly (D.state disk.new) ((base : BaseBytes) → Represents path.now base (D.state disk.old).seen
         → IfOk result (λ looked. IfSome looked (λ l. held_by (D.state disk.new) l.folder ≡ base))) }
     ensures seen { IfOk result (λ looked. IfSome looked (λ l. IsLookedAt (D.state disk.new) l.folder × Honestly (D.state disk.new) (AreVouched H.keyed (D.state disk.new) first l.folder))) }
+    ensures shown { Honestly (D.state disk.new) (IfOk result (λ looked. IfSome looked (λ l. IsAsShown path.now (D.state disk.old).seen (D.state disk.new) l.folder))) }
     ensures steady { IfOk result (λ looked. IfSome looked (λ l. GoesOn l.log.items l.reread.items)) }
     ensures logs { Honestly (D.state disk.new) (IfOk result (λ looked. IfSome looked (HasLogs path.now (D.state disk.old).seen))) }
     ensures sound { Honestly (D.state disk.new) (OnOk result (IsSound strange path.now (D.state disk.old).seen)) }
@@ -156,6 +158,7 @@ fn folder_by<D: Disk, H: Digest, P: ReadingProgress>(
     requires read { IsReadWhole log.now }
     ensures bytes { IfOk result (λ folder. held_by (D.state disk.new) folder ≡ base_at (D.state disk.old) path.now log.now.end.recorded) }
     ensures ready { IfOk result (IsLookedAt (D.state disk.new)) }
+    ensures shown { Honestly (D.state disk.new) (IfOk result (IsAsShown path.now (D.state disk.old).seen (D.state disk.new))) }
     ensures vouched { Honestly (D.state disk.new) (IfOk result (AreVouched H.keyed (D.state disk.new) first)) }
     ensures sound { Honestly (D.state disk.new) (OnOk result (IsSound strange path.now (D.state disk.old).seen)) }
     ensures wrong { Honestly (D.state disk.new) (IfErr result (IsUnseen H.keyed strange path.now (D.state disk.old).seen)) }

@@ -1,7 +1,7 @@
 //! The two readers of a base: of a base file in memory, and of a base folder on a disk.
 
 ghost use Rattle.std.specs.Prelude.{◌≡◌, ◌⊎◌, IfErr, IfOk, Some};
-ghost use Rattle.{disk_io.specs.Disk.Honestly, base_folder_store.specs.Held.{HoldsBase, RepresentsBase}};
+ghost use Rattle.{disk_io.specs.{Disk.Honestly, Runs.ChangesNothing}, base_folder.specs.Looked.{IsReaderOf, IsUnreadOf}, base_folder_store.specs.Held.{HoldsBase, RepresentsBase}};
 ghost use Rattle.{base_folder_store.specs.{Opened.held_by, Vouched.IsLookedAt}, cmd_status.specs.{Ended.IsOutOfMemory, Inputs.{IsBaseFault, IsBaseGiven}}};
 ghost use Rattle.base_file.specs.Base as model;
 
@@ -111,7 +111,8 @@ impl<D: Disk, H: Digest> FolderReader<D, H> {
     }
 }
 
-/// The base folder of this path, to be read message by message, after a look at it (`look`).
+/// The base folder of this path, to be read message by message, after a look at it (`look`). The reader has the bytes of
+/// the files, so that no folder with a fault is read as an empty base.
 pub fn read_folder<D: Disk + Drop, H: Digest, P: ReadingProgress>(
     alloc: Global,
     disk: D,
@@ -123,6 +124,9 @@ pub fn read_folder<D: Disk + Drop, H: Digest, P: ReadingProgress>(
     ensures ready { IfOk result (λ messages. (⟦<FolderReader<D, H> as MessageSource>⟧.state messages).is_ready) }
     ensures holds { IfOk result (λ messages. Honestly (D.state messages.disk) ((base : model.Base) → RepresentsBase H.keyed path.now base (D.state disk).seen
         → (⟦<FolderReader<D, H> as MessageSource>⟧.state messages).holds base)) }
+    ensures read { IfOk result (λ messages. Honestly (D.state messages.disk) (IsReaderOf H.keyed strange path.now first (D.state disk) (D.state messages.disk) messages.folder)) }
+    ensures quiet { IfOk result (λ messages. ChangesNothing (D.state disk) (D.state messages.disk)) }
+    ensures unread { IfErr result (IsUnreadOf D.state D.failures H.keyed strange path.now disk) }
 {
     let mut disk = disk;
     let looked = look::<D, H, P>(alloc, &mut disk, path, strange, first, progress)?;

@@ -1,5 +1,5 @@
 -- The packet files of `toss` on a disk.
-use Rattle.std.specs.Prelude.{ℕ, Bool, true, false, List, length, Option, Some, None, if◌then◌else◌, nat_lt}
+use Rattle.std.specs.Prelude.{ℕ, Bool, true, false, List, length, map, Option, Some, None, if◌then◌else◌, nat_lt}
 use Rattle.disk_io.specs.Disk.{Files}
 use Rattle.cmd_store.specs.Coming.{Coming, Fails, Holds, Unknown}
 
@@ -16,3 +16,7 @@ coming_of path (Some bytes) = if nat_lt most_held (length bytes) then Unknown el
 abbrev pub coming_at : Files → Bool → List ℕ → Coming
 coming_at seen true path = coming_of path (seen path)
 coming_at seen false path = Fails path
+
+-- The contents of the files with these names.
+abbrev pub coming_in : {N : Type 0} → (N → Bool) → (N → List ℕ) → Files → List N → List Coming
+coming_in usable path seen names = map (λ name. coming_at seen (usable name) (path name)) names

@@ -1,7 +1,8 @@
 //! The packet files of `toss` on a disk: each is opened when its turn comes.
-ghost use Rattle.std.specs.Prelude.{◌≡◌, ◌≤◌, Some, map, IfOk};
-ghost use Rattle.{disk_io.specs.{Disk.Honestly, Runs.{ChangesNothing, HasCause}}, cmd_store.specs.Coming.Opens};
-ghost use Rattle.station.specs.{PacketReader.held_remaining, PacketsFound.IsFound, Faults.HasSize, PacketsOnDisk.{coming_at, most_held}};
+ghost use Rattle.std.specs.Prelude.{◌≡◌, ◌≤◌, Some, IfOk};
+ghost use Rattle.{disk_io.specs.{Device.Failed, Disk.Honestly, Runs.{ChangesNothing, HasCause}}, cmd_store.specs.Coming.OpensNext};
+ghost use Rattle.station.specs.{PacketReader.{OpensFirst, OpensHere, held_remaining}, PacketsFound.{IsFound, IsFoundOrFailed}, Faults.HasSize};
+ghost use Rattle.station.specs.PacketsOnDisk.{coming_at, coming_in, most_held};
 
 use crate::held_bytes::HeldBytes;
 use crate::packet_reader::PacketSource;
@@ -48,11 +49,18 @@ impl<'a, D: Disk + Drop, N: PacketName, S: StreamPackets<'a>> PacketFiles<'a>
     for PacketsOnDisk<'a, D, N, S> {
     type Reader = PacketSource<S::Reader>;
 
-    ghost coming = { λ packets. map (λ name. coming_at (D.state packets.disk).seen (N.is_usable name) (N.path name)) packets.names.now };
+    ghost coming = { λ packets. coming_in N.is_usable N.path (D.state packets.disk).seen packets.names.now };
 
     ghost is_honest = { λ packets. (D.state packets.disk).is_honest × (D.failures packets.disk ≡ 0) };
 
-    fn open_next(&mut self) -> Option<Result<PacketSource<S::Reader>, Fault<'a>>> {
+    // Only a failure in this very call leaves a file unheld: what an earlier call met changes nothing.
+    fn open_next(&mut self) -> Option<Result<PacketSource<S::Reader>, Fault<'a>>>
+        ensures next { OpensNext ((D.state self.new.disk).is_honest × (D.failures self.new.disk ≡ 0)) (held_remaining S.Reader.remaining)
+            (coming_in N.is_usable N.path (D.state self.old.disk).seen self.old.names.now) (coming_in N.is_usable N.path (D.state self.new.disk).seen self.new.names.now) result }
+        ensures honest { (D.state self.new.disk).is_honest × (D.failures self.new.disk ≡ 0) → (D.state self.old.disk).is_honest × (D.failures self.old.disk ≡ 0) }
+        ensures first { OpensFirst (D.state self.new.disk).is_honest (Failed (D.failures self.old.disk) (D.failures self.new.disk)) S.Reader.remaining
+            (coming_in N.is_usable N.path (D.state self.old.disk).seen self.old.names.now) (coming_in N.is_usable N.path (D.state self.new.disk).seen self.new.names.now) result }
+    {
         let names: &'a [N] = self.names;
         if names.is_empty() {
             return None;
@@ -72,7 +80,7 @@ fn open_packet<'a, D: Disk, N: PacketName, S: StreamPackets<'a>>(
     number: usize,
     name: &'a N,
 ) -> Result<PacketSource<S::Reader>, Fault<'a>>
-    ensures opens { Honestly (D.state disk.new) (D.failures disk.new ≡ 0 → Opens (held_remaining S.Reader.remaining)
+    ensures opens { Honestly (D.state disk.new) (OpensHere (Failed (D.failures disk.old) (D.failures disk.new)) S.Reader.remaining
         (coming_at (D.state disk.old).seen (N.is_usable name.now) (N.path name.now)) result) }
     ensures quiet { ChangesNothing (D.state disk.old) (D.state disk.new) }
     ensures later { D.failures disk.old ≤ D.failures disk.new }
@@ -100,7 +108,7 @@ enum Found {
 
 // The packet file with this path. If the disk fails, the program reads the file as a large one, and reports its fault.
 fn hold_packet<D: Disk>(alloc: Global, disk: &mut D, path: &str) -> Result<Found, AllocError>
-    ensures found { Honestly (D.state disk.new) (D.failures disk.new ≡ 0 → IfOk result (IsFound ((D.state disk.old).seen path.now))) }
+    ensures found { Honestly (D.state disk.new) (IfOk result (IsFoundOrFailed (Failed (D.failures disk.old) (D.failures disk.new)) ((D.state disk.old).seen path.now))) }
     ensures quiet { ChangesNothing (D.state disk.old) (D.state disk.new) }
     ensures later { D.failures disk.old ≤ D.failures disk.new }
 {

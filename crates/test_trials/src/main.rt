@@ -1,5 +1,4 @@
-//! What no contract says: tests of calls of the system, of answers that no command prints, and of the library's worked
-//! examples (`rows`, `tosser_rows`, `tosser_faults`, `tosser_refusals`, `net_rows`); and a program for trials and
+//! What no contract says: tests of calls of the system and of answers that no command prints; and a program for trials and
 //! measurements. Its first word is a module: `texts` and `tosses` are benchmarks (see bench/), and `world` writes the
 //! bases and packets that a replay leaves, for trials/. The other words are those of the module. Without words each runs
 //! once on a small input. It is proved to be safe and to end, and no more. Begin with `run` and with `real_disk`.
@@ -10,26 +9,14 @@ mod bases;
 #[cfg(test)]
 mod fault_lines;
 #[cfg(test)]
-mod net_rows;
-#[cfg(test)]
 mod on_real_files;
 #[cfg(test)]
 mod packets;
 #[cfg(test)]
 mod real_disk;
 #[cfg(test)]
-mod rows;
-#[cfg(test)]
-mod samples;
-#[cfg(test)]
 mod system_files;
 mod texts;
-#[cfg(test)]
-mod tosser_faults;
-#[cfg(test)]
-mod tosser_refusals;
-#[cfg(test)]
-mod tosser_rows;
 mod tosses;
 mod world;
 

@@ -1,5 +1,5 @@
 use Rattle.{std.{proofs.Common.{◌≡◌, Option, sym, subst, arith}, specs.Prelude.IfSome}, disk_io.specs.Disk.Files, base_log.specs.Standing.Represents}
-use Rattle.{base_folder_store.specs.Opened.held_by, base_folder.specs.{Looked.IsUnseen, Wrong.IsSound, declared.looking.LookedFolder.LookedFolder}}
+use Rattle.{base_folder_store.specs.Opened.held_by, base_folder.specs.{Looked.{IsAsShown, IsUnseen}, Wrong.IsSound, declared.looking.LookedFolder.LookedFolder}}
 use Rattle.base_folder.proofs.Lookings.{err_is}
 use Rattle.base_folder.proofs.looking.look.Goals as goal
 
@@ -28,6 +28,16 @@ returns-in-Some-clause-ready g c = grind arith
 
 pub returns-in-Some-clause-vouched : goal.returns-in-Some-clause-vouched
 returns-in-Some-clause-vouched g c honest = grind arith
+
+pub returns-in-Some-clause-shown : goal.returns-in-Some-clause-shown
+returns-in-Some-clause-shown g c honest =
+    let path = c.args.path.now in
+    let d0 = g.D.Disk.state c.args.disk.now in
+    let d1 = g.D.Disk.state c.tries.disk in
+    let d2 = g.D.Disk.state c.look_once.new.disk in
+    let same : d1.seen ≡ d0.seen = λ i m. c.tries.invariant.quiet.seen m i in
+    let shown = subst (λ (o : Option LookedFolder). IfSome o (λ l. IsAsShown path d1.seen d2 l.folder)) c.in-Some.is (c.in_ok-looked.ensures.shown honest) in
+    subst (λ (f : Files). IsAsShown path f d2 c.in-Some.looked.folder) same shown
 
 pub returns-in-Some-clause-sound : goal.returns-in-Some-clause-sound
 returns-in-Some-clause-sound g c honest =

@@ -1,6 +1,6 @@
 use Rattle.{std.proofs.Common.{◌≡◌, ◌∙◌, subst, arith}, disk_io.specs.Disk.Files, base_log.specs.Standing.base_at, base_folder_store.specs.Opened.held_by}
-use Rattle.{base_folder_store.proofs.Legible.held_quiet, base_folder.{specs.{Looked.IsUnseen, Wrong.IsSound}, proofs.Lookings.{at_err, at_ok, err_is}}}
-use Rattle.base_folder.proofs.{Openings.base_is, Readings.looked_quiet}
+use Rattle.{base_folder_store.proofs.Legible.held_quiet, base_folder.{specs.{Looked.{IsAsShown, IsUnseen}, Wrong.IsSound}, proofs.Lookings.{at_err, at_ok, err_is}}}
+use Rattle.base_folder.proofs.{Openings.base_is, Readings.{looked_quiet, shown_quiet}}
 use Rattle.base_folder.proofs.looking.look_once.Goals as goal
 
 pub returns-in_err-folder-clause-wrong : goal.returns-in_err-folder-clause-wrong
@@ -33,6 +33,19 @@ returns-clause-found g c honest base represented =
 
 pub returns-clause-seen : goal.returns-clause-seen
 returns-clause-seen g c = grind (arith, looked_quiet, at_ok, held_quiet)
+
+pub returns-clause-shown : goal.returns-clause-shown
+returns-clause-shown g c honest =
+    let path = c.args.path.now in
+    let d0 = g.D.Disk.state c.args.disk.now in
+    let d1 = g.D.Disk.state c.read_log.new.disk in
+    let d2 = g.D.Disk.state c.folder_by-read.new.disk in
+    let d3 = g.D.Disk.state c.read_log-2.new.disk in
+    let folder = c.in_ok-folder.folder in
+    let quiet = c.read_log-2.ensures.quiet in
+    let same : d1.seen ≡ d0.seen = λ i m. c.read_log.ensures.quiet.seen m i in
+    let shown = at_ok (λ f. IsAsShown path d1.seen d2 f) c.folder_by-read.result folder c.in_ok-folder.was (c.folder_by-read.ensures.shown (quiet.honest honest)) in
+    subst (λ (f : Files). IsAsShown path f d3 folder) same (shown_quiet path d1.seen d2 d3 folder quiet shown)
 
 pub returns-clause-sound : goal.returns-clause-sound
 returns-clause-sound g c honest =

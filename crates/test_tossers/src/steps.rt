@@ -1,5 +1,4 @@
 //! Tossers: what is posted, scanned, tossed and purged at one system after another.
-use crate::samples::{ALPHA, BETA, FIRST, POSTED, PURGED, changed};
 use echo_addr::{Address, Items, Watched};
 use echo_packet::{Limits, Packed, PacketFault};
 use echo_toss::{
@@ -9,6 +8,7 @@ use echo_toss::{
 use std::alloc::{AllocError, Global};
 use std::hash::{BuildHasher, BuildHasherDefault, FoldHasher};
 use std::test::Fail;
+use test_formats::samples::{ALPHA, BETA, FIRST, POSTED, PURGED, changed};
 
 pub(crate) type System = Tosser<BuildHasherDefault<FoldHasher>>;
 

@@ -5,7 +5,7 @@ ghost use Rattle.echo_text.specs.Echo.{HasNoZero};
 use std::alloc::{AllocError, Global};
 
 /// A packet of 60 bytes without messages, from 1:10/1 to 1:10/2.
-pub(crate) const SIXTY: &[u8] = b"\
+pub const SIXTY: &[u8] = b"\
     \x01\0\x02\0\xea\x07\x06\0\x03\0\x0c\0\x22\0\x38\0\0\0\x02\0\
     \x0a\0\x0a\0\0\0\
     \0\0\0\0\0\0\0\0\
@@ -14,7 +14,7 @@ pub(crate) const SIXTY: &[u8] = b"\
     \0\0";
 
 /// The packet of the first posting, of 212 bytes, from 1:10/1 to 1:10/2. Its message begins at 58, the text at 103.
-pub(crate) const FIRST: &[u8] = b"\
+pub const FIRST: &[u8] = b"\
     \x01\0\x02\0\xea\x07\x06\0\x03\0\x0c\0\x22\0\x38\0\0\0\x02\0\
     \x0a\0\x0a\0\0\0\
     \0\0\0\0\0\0\0\0\
@@ -34,7 +34,7 @@ pub(crate) const FIRST: &[u8] = b"\
     \0\0";
 
 /// The base of 136 bytes with that posting, not scanned.
-pub(crate) const POSTED: &[u8] = b"\
+pub const POSTED: &[u8] = b"\
     ECHOBAS2\0\0\0\0\x01\0\0\0\
     \0\0\0\0\0\0\003 Jul 26  12:34:56\0\
     \x03All\x03Ann\x02Hi\
@@ -46,7 +46,7 @@ pub(crate) const POSTED: &[u8] = b"\
     \x20* Origin: Alpha (1:10/1)\r";
 
 /// The same in version 1.
-pub(crate) const POSTED_OLD: &[u8] = b"\
+pub const POSTED_OLD: &[u8] = b"\
     ECHOBAS1\0\0\0\0\x01\0\0\0\
     \0\0\0\0\0\0\003 Jul 26  12:34:56\0\
     \x03All\x03Ann\x02Hi\
@@ -58,24 +58,24 @@ pub(crate) const POSTED_OLD: &[u8] = b"\
     \x20* Origin: Alpha (1:10/1)\r";
 
 /// The base of 78 bytes after the scan and a purge.
-pub(crate) const PURGED: &[u8] = b"\
+pub const PURGED: &[u8] = b"\
     ECHOBAS2\x01\0\0\0\x01\0\0\0\
     \x02\0\0\0\0\0\003 Jul 26  12:34:56\0\
     \x03All\x03Ann\x02Hi\
     \x04TEST\x0f\0\0\01:10/1 00000001";
 
 /// The base without messages.
-pub(crate) const EMPTY: &[u8] = b"ECHOBAS2\0\0\0\0\0\0\0\0";
+pub const EMPTY: &[u8] = b"ECHOBAS2\0\0\0\0\0\0\0\0";
 
 /// The system that posts, and the second and third of a chain.
-pub(crate) const ALPHA: &[u8] = b"SYSTEM 1:10/1\nNAME Alpha\nAREA TEST 1:10/2\nAREA OTHER 1:10/2";
+pub const ALPHA: &[u8] = b"SYSTEM 1:10/1\nNAME Alpha\nAREA TEST 1:10/2\nAREA OTHER 1:10/2";
 
-pub(crate) const BETA: &[u8] = b"SYSTEM 1:10/2\nAREA TEST 1:10/1 1:10/3\nAREA OTHER 1:10/1";
+pub const BETA: &[u8] = b"SYSTEM 1:10/2\nAREA TEST 1:10/1 1:10/3\nAREA OTHER 1:10/1";
 
-pub(crate) const GAMMA: &[u8] = b"SYSTEM 1:10/3\nAREA TEST 1:10/2";
+pub const GAMMA: &[u8] = b"SYSTEM 1:10/3\nAREA TEST 1:10/2";
 
 /// The bytes with some replaced, each at its place.
-pub(crate) fn changed(
+pub fn changed(
     alloc: Global,
     bytes: &[u8],
     changes: &[(usize, u8)],
@@ -90,14 +90,14 @@ pub(crate) fn changed(
 }
 
 /// The bytes and those behind them.
-pub(crate) fn joined(alloc: Global, front: &[u8], behind: &[u8]) -> Result<Vec<u8>, AllocError> {
+pub fn joined(alloc: Global, front: &[u8], behind: &[u8]) -> Result<Vec<u8>, AllocError> {
     let mut all = Vec::from_slice(alloc, front)?;
     all.extend_from_slice(behind)?;
     Ok(all)
 }
 
 /// The text, if it has no 00.
-pub(crate) fn without_zero(text: &[u8]) -> Option<&[u8]>
+pub fn without_zero(text: &[u8]) -> Option<&[u8]>
     ensures { IfSome result (λ t. HasNoZero t.now) }
 {
     if text.iter().all(|b| *b != 0) {

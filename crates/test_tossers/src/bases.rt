@@ -1,10 +1,10 @@
 //! Base files: cut, damaged, read from readers that fail, and saved to writers that do.
-use crate::samples::{ALPHA, EMPTY, POSTED, POSTED_OLD, PURGED, changed, joined};
 use echo_addr::{Sink, Source, Trial, Watched};
 use echo_toss::{BaseFault, LinkFile, Tosser};
 use std::alloc::{AllocError, Global};
 use std::hash::{BuildHasher, BuildHasherDefault, FoldHasher};
 use std::test::Fail;
+use test_formats::samples::{ALPHA, EMPTY, POSTED, POSTED_OLD, PURGED, changed, joined};
 
 type System = Tosser<BuildHasherDefault<FoldHasher>>;
 

@@ -1,12 +1,12 @@
 //! Calls of a tosser that are refused memory leave the system as it was, and answer when they are called again. Without
 //! a refusal each test shows that the call answers at once. `rt try --test --fail-alloc N` refuses the Nth growth.
-use crate::samples::{ALPHA, BETA, EMPTY, FIRST, POSTED, PURGED};
-use crate::tosser_rows::{STAMP, System, holds, post, system, toss};
+use crate::steps::{STAMP, System, holds, post, system, toss};
 use echo_packet::Limits;
 use echo_toss::{PostFault, ScanFault, Tally, TossCause, TossFault, Tosser};
 use std::alloc::Global;
 use std::hash::BuildHasher;
 use std::test::Fail;
+use test_formats::samples::{ALPHA, BETA, EMPTY, FIRST, POSTED, PURGED};
 
 /// The system of the link file, also if the first attempt was refused memory.
 fn ready(alloc: Global, file: &[u8]) -> Result<System, Fail> {

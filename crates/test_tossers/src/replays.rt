@@ -1,5 +1,5 @@
 //! Replays of scripts. Systems are named by their index in the list of link files, packets by their order of export.
-use super::verdicts::net;
+use crate::verdicts::net;
 use echo_addr::{Address, Watched};
 use echo_net::{World, read_script, replay};
 use std::alloc::Global;

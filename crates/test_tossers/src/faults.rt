@@ -1,12 +1,12 @@
 //! Calls of a tosser that are refused: each leaves the system as it was.
-use crate::samples::{ALPHA, BETA, EMPTY, FIRST, POSTED, changed, joined};
-use crate::tosser_rows::{ONE_FILED, STAMP, draft, holds, post, saved, scanned, system, toss};
+use crate::steps::{ONE_FILED, STAMP, draft, holds, post, scanned, system, toss};
 use echo_addr::{Address, Trial, Watched};
 use echo_packet::{Limits, PacketFault};
 use echo_toss::{PostFault, ScanFault, Stamp, Tally, TossCause, TossFault, Tosser};
 use std::alloc::Global;
 use std::hash::BuildHasher;
 use std::test::Fail;
+use test_formats::samples::{ALPHA, BETA, EMPTY, FIRST, POSTED, changed, joined};
 
 /// What the first posting is changed to.
 #[derive(Drop)]
@@ -185,26 +185,6 @@ fn filed_postings(rt: HostRuntime) -> Result<(), Fail> {
     assert!(rt; is_answered(rt.alloc(), &mut alpha, &posting, None));
     let reply = b"1:10/9 00000009".as_slice();
     assert!(rt; is_filed(&alpha, b"TEST", b"31 Feb 26  12:34:56\0", Some(reply)));
-    Ok(())
-}
-
-/// Whether a posting with the serial is refused in both areas, and files nothing.
-fn is_known<S: BuildHasher>(alloc: Global, at: &mut Tosser<S>, serial: u32) -> Result<bool, Fail> {
-    let before = saved(alloc, at)?;
-    let here = post(alloc, at, b"TEST", serial);
-    let elsewhere = post(alloc, at, b"OTHER", serial);
-    let known = Err(PostFault::KnownSerial);
-    Ok(here == known && elsewhere == known && holds(alloc, at, &before))
-}
-
-/// Nor does a purge forget it.
-#[test]
-fn purged_serial(rt: HostRuntime) -> Result<(), Fail> {
-    let mut alpha = system(rt.alloc(), ALPHA)?;
-    post(rt.alloc(), &mut alpha, b"TEST", 1)?;
-    alpha.scan(STAMP)?;
-    assert_eq!(rt; alpha.purge()?, 1);
-    assert!(rt; is_known(rt.alloc(), &mut alpha, 1)?);
     Ok(())
 }
 
