@@ -134,6 +134,8 @@ impl<'p, 'r, W> ErasingOutput<'p, 'r, W> {
 }
 
 impl<W: Write> Write for ErasingOutput<'_, '_, W> {
+    ghost contents = { λ output. W.contents output.to };
+
     fn write(&mut self, buf: &[u8]) -> io::Result<usize> {
         self.progress.clear();
         self.to.write(buf)

@@ -29,6 +29,8 @@ impl<W> KeptLines<W> {
 }
 
 impl<W: Write> Write for KeptLines<W> {
+    ghost contents = { λ lines. W.contents lines.to };
+
     fn write(&mut self, buf: &[u8]) -> io::Result<usize> {
         let count = self.to.write(buf)?;
         let _ = self.kept.extend_from_slice(&buf[..count]);

@@ -35,7 +35,7 @@ systems-files [] (file ∷ files) are = absurd are
 systems-files (station ∷ stations) [] are = absurd are
 systems-files (station ∷ stations) (file ∷ files) are = ap (λ (fs : List LinkFile). file ∷ fs) (systems-files stations files are.1)
 
-systems-filed : (stations : List Station) (files : List LinkFile) (s : System) → Among s (systems_of files stations) → s.history ≡ s.base
+pub systems-filed : (stations : List Station) (files : List LinkFile) (s : System) → Among s (systems_of files stations) → s.history ≡ s.base
 systems-filed stations [] s h = absurd h
 systems-filed [] (file ∷ files) s h = absurd h
 systems-filed (station ∷ stations) (file ∷ files) s h = elim h [

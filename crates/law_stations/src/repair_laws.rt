@@ -26,8 +26,7 @@ pub fn what_is_mended_is_everywhere()
 {}
 
 /// The headline over crashes beside repairs: let `check` have ended with 0 for the link files that the stations have now, and an
-/// area. Whatever the disks have, each message of the area that none of them has, and that no repair sends, is sent and
-/// filed once.
+/// area. Whatever the disks have, each message of the area that none of them has, and that no repair sends, is in order.
 pub fn new_messages_are_in_order_beside_repairs()
     ensures { HeadlineBesideRepairs }
 {}
