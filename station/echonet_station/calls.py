@@ -8,6 +8,7 @@ from typing import NamedTuple, Optional
 from .signals import Waiting
 
 KILLED = 128  # as a shell counts signals
+NOTE = "echonet: note: "  # what a line begins with that says in words what a fault is, where, and what to do
 
 
 class Called(NamedTuple):
@@ -20,6 +21,10 @@ class Called(NamedTuple):
     def first_line(self) -> str:
         """What it printed first, in its output or else on its standard error."""
         return (self.output + self.faults).strip().split("\n")[0]
+
+    def notes(self) -> list[str]:
+        """The notes on its faults."""
+        return [line for line in self.faults.split("\n") if line.startswith(NOTE)]
 
 
 # Descriptors of locks that a called program keeps: if this process is killed, the next run waits for that program.

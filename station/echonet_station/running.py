@@ -15,6 +15,12 @@ def say_fault(line: str) -> None:
     print("echonet-station: %s" % line, file=sys.stderr, flush=True)
 
 
+def say_notes(notes: list[str]) -> None:
+    """Notes of `echonet` on standard error, each once."""
+    for note in dict.fromkeys(notes):
+        print(note, file=sys.stderr, flush=True)
+
+
 def status_of(work: Callable[[], int]) -> int:
     """The status of some work. Whatever Python raises is a failure of the device: its own status 1 means another thing."""
     try:

@@ -102,6 +102,11 @@ class Subscribing:
                     self.was_done = True
                 yield found
 
+    def advice(self, outcomes: list[Outcome]) -> list[str]:
+        """The notes on what was left out and on what was refused: what a sysop may do."""
+        left_out = [] if self.judge is None else self.judge.notes
+        return [*left_out, *(it.refusal.note for it in outcomes if it.refusal and it.refusal.note)]
+
     def unjudged(self) -> Optional[str]:
         """The line that says that nothing was judged."""
         has_net = self.judge is None or self.judge.has_net

@@ -17,6 +17,7 @@ from test_stops import Stopping
 
 HUB = b"; mine\r\nSYSTEM 2:5020/100\r\nNAME Hub\nAREA TEST  2:5020/1 2:31000/7\r\n\tAREA\tother 2:5020/1\nAREA LAST"
 LINE = "echonet-station: "
+NOTE = "echonet: note: "
 
 
 class Links(Handwork):
@@ -106,7 +107,8 @@ class Subscribe(Links):
         self.put("links", text)
         status, lines = self.say("subscribe", "2:5020/200", "TEST")
         self.assertEqual((status, self.content("links")), (2, text))
-        self.assertIn("L6 RepeatedLink", lines[-1])
+        wanted = [LINE + "%s:7: L6 RepeatedLink '2:5020/1'", NOTE + "%s:7: second link '2:5020/1', one is allowed"]
+        self.assertEqual(lines[-2:], [line % self.at("links") for line in wanted])
         self.assertNotIn("links.new", self.names())
 
     def test_tags_that_none_can_be(self):
@@ -139,13 +141,16 @@ class Judged(Links):
         os.mkdir(self.at("net", "folder"))
         status, lines = self.say("subscribe", "2:5020/200", "TEST", "OTHER")
         found = re.fullmatch(r"refused 2:5020/200 TEST: would loop: (.*)", lines[0])
-        self.assertEqual((status, lines[1:]), (1, ["subscribed 2:5020/200 OTHER"]))
+        self.assertEqual((status, lines[1]), (1, "subscribed 2:5020/200 OTHER"))
+        self.assertRegex(lines[2], NOTE + r"2:5020/.* form a loop, and .* are not linked: remove a link of the loop")
+        self.assertEqual(len(lines), 3)
         self.assertEqual(sorted(found[1].split(" ")), ["2:5020/1", "2:5020/100", "2:5020/200", "2:5020/5"])
         self.assertEqual(self.say("subscribe", "2:5020/200", "TEST", "--force"), (0, ["subscribed 2:5020/200 TEST"]))
 
     def test_same_net_and_node(self):
         self.system("a", "2:5020/1", "TEST 2:5020/100")
         lines = ["refused 1:5020/1 TEST: V6 SameNetNode 1:5020/1 2:5020/1"]
+        lines += [NOTE + "SEEN-BY cannot tell 1:5020/1 from 2:5020/1: give one another address. Mail may be lost"]
         self.assertEqual(self.say("subscribe", "1:5020/1", "TEST"), (1, lines))
         self.assertEqual(self.content("links"), HUB)
 
@@ -170,6 +175,20 @@ class Judged(Links):
         status, lines = self.say("subscribe", "2:5020/200", "TEST")
         self.assertEqual((status, lines[0]), (1, r"left out net/odd \x01: L2 BadAddress line 2"))
         self.assertIn("would loop: ", lines[1])
+        self.assertEqual(lines[2], NOTE + r"net/odd \x01:2: bad address 'x', expected zone:net/node")
+        self.assertIn("form a loop", lines[3])
+        self.assertEqual(len(lines), 4)
+
+    def test_the_note_is_that_of_its_fault(self):
+        """Another area has another fault, and the same area one before the loop."""
+        self.system("a", "2:5020/1", "TEST 2:5020/100 2:5020/5 2:5020/8", "OTHER 2:5020/100")
+        self.system("b", "2:5020/5", "TEST 2:5020/1 2:5020/200")
+        self.system("c", "2:5020/200", "TEST 2:5020/5")
+        self.system("d", "2:5020/8", "TEST 2:5020/7")
+        status, lines = self.say("subscribe", "2:5020/200", "OTHER", "TEST")
+        self.assertEqual((status, lines[0]), (1, "subscribed 2:5020/200 OTHER"))
+        loop = lines[1].split("would loop: ")[1].split(" ")
+        self.assertTrue(lines[2].startswith(NOTE + ", ".join(loop) + " form a loop"), lines)
 
     def test_mail_that_was_seen(self):
         """The ways of mail close a ring of which no file is at hand."""
@@ -179,8 +198,9 @@ class Judged(Links):
         now = build.time.strftime("%d %b %y  %H:%M:%S", build.time.gmtime()).encode() + b"\0"
         Areas.toss(self, build.message(text).replace(build.DATE, now))
         status, lines = self.say("subscribe", "2:5020/200", "TEST")
-        self.assertEqual((status, len(lines)), (1, 1))
+        self.assertEqual((status, len(lines)), (1, 2))
         self.assertIn("would loop: ", lines[0])
+        self.assertIn("form a loop", lines[1])
         self.assertEqual(self.names("net"), ["seen.2.5020.1", "seen.2.5020.200", "seen.2.5020.5"])
         self.system("one", "2:5020/1", "TEST 2:5020/100 2:5020/5")
         self.put("net/seen.2.5020.77", b"SYSTEM 2:5020/77\n")
