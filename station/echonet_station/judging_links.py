@@ -6,27 +6,20 @@ import shutil
 import tempfile
 from dataclasses import dataclass
 from os.path import join
-from typing import Iterable, NamedTuple, Optional
+from typing import Iterable, Optional
 
 from fidonet.addresses import Address, address_of
 
 from .blocks import Links, block_of
 from .calls import call, program
-from .faults import Status, Stopped
+from .faults import Status
 from .link_lines import links_in, reduced, with_area
-from .net_files import NetFiles, shown_name
+from .net_files import NetFiles
 from .station import Station
 
 VERDICT = re.compile(r"(yes|no|alone) (\S+)(?: (V[0-9] .*))?")
 ALSO = re.compile(r"also (V[0-9] .*)")
 ABOUT_OTHERS = ("V2", "V6")
-
-
-class Fault(NamedTuple):
-    """A fault of an area, and the note on it."""
-
-    what: str
-    note: str
 
 
 @dataclass(frozen=True)
@@ -36,7 +29,6 @@ class Refusal:
     verdict: str
     loop: tuple[Address, ...] = ()
     others: tuple[Address, ...] = ()  # the systems of its block that the new link has already, without this one
-    note: str = ""  # in words, with what to do
 
     def __str__(self) -> str:
         return "would loop: " + " ".join(map(str, self.loop)) if self.loop else self.verdict
@@ -56,22 +48,23 @@ def tag_word(tag: str) -> bytes:
     return tag.encode("latin-1")
 
 
-def faults_in(output: str, notes: list[str]) -> dict[str, list[Fault]]:
-    """The faults of each area, in the order of the lines, each with its note."""
-    found: dict[str, list[Fault]] = {}
-    rest, tag = iter(notes), ""
+def verdicts_in(output: str) -> dict[str, list[str]]:
+    """The faults of each area, in the order of the lines."""
+    found: dict[str, list[str]] = {}
+    faults: list[str] = []
     for line in output.split("\n"):
         verdict, also = VERDICT.fullmatch(line), ALSO.fullmatch(line)
-        tag = verdict[2] if verdict else tag
-        what = (verdict and verdict[3]) or (also and also[1])
-        if what:
-            found.setdefault(tag, []).append(Fault(what, next(rest, "")))
+        if verdict:
+            faults = found.setdefault(verdict[2], [])
+        if verdict and verdict[3]:
+            faults.append(verdict[3])
+        elif also:
+            faults.append(also[1])
     return found
 
 
-def faults_of(names: list[str], texts: Iterable[bytes]) -> dict[str, list[Fault]]:
-    """What `echonet check` finds in all areas of some link files, which the notes call by these names. Systems without a
-    file are assumed."""
+def faults_of(texts: Iterable[bytes]) -> dict[str, list[str]]:
+    """What `echonet check` finds in all areas of some link files. Systems without a file are assumed."""
     folder = tempfile.mkdtemp(prefix="echonet.")
     words = ("check", "--all", "--more", "--explain", "--assume-missing", "--links-from", "-")
     try:
@@ -83,11 +76,9 @@ def faults_of(names: list[str], texts: Iterable[bytes]) -> dict[str, list[Fault]
         ran = call(program(), *words, given="\n".join(paths).encode())
     finally:
         shutil.rmtree(folder, ignore_errors=True)
-    notes = [re.sub(re.escape(folder) + "/([0-9]+)", lambda found: names[int(found[1])], note) for note in ran.notes()]
     if ran.status not in (Status.GOOD, Status.HAND):
-        status = Status.REFUSED if ran.status == Status.REFUSED else Status.FAILED
-        raise Stopped(status, "\n".join([ran.faults.strip().split("\n")[0], *notes]))
-    return faults_in(ran.output, notes)
+        raise ran.stopped()
+    return verdicts_in(ran.output)
 
 
 def full_links(files: list[tuple[Address, bytes]], tag: bytes) -> Links:
@@ -120,8 +111,7 @@ class Judge:
         others = [(file.owner, reduced(file.text, words)) for file in self.files]
         before = [(self.own, reduced(text, words)), *others]
         after = [(owner, self.as_if(owner, content, link, words)) for owner, content in before]
-        names = ["links", *(shown_name(file.name) for file in self.files)]
-        old, new = (faults_of(names, (content for _, content in files)) for files in (before, after))
+        old, new = (faults_of(content for _, content in files) for files in (before, after))
         found = ((tag, self.refusal(after, link, tag, old.get(tag, []), new.get(tag, []))) for tag in tags)
         return {tag: refusal for tag, refusal in found if refusal}
 
@@ -134,15 +124,14 @@ class Judge:
                 content = with_area(content, word, self.own)
         return content
 
-    def refusal(self, files: list[tuple[Address, bytes]], link: Address, tag: str, old: list[Fault], new: list[Fault]) -> Optional[Refusal]:
+    def refusal(self, files: list[tuple[Address, bytes]], link: Address, tag: str, old: list[str], new: list[str]) -> Optional[Refusal]:
         """Why the link should not be, if so."""
-        loops = [fault for fault in new if fault.what.startswith("V8 ")]
+        loops = [fault for fault in new if fault.startswith("V8 ")]
         links = full_links(files, tag_word(tag)) if loops else {}
         block = block_of(links, self.own, link) if loops else set()
         for fault in loops:
-            loop = tuple(it for it in map(address_of, fault.what.split(" ")[2:]) if it)
+            loop = tuple(it for it in map(address_of, fault.split(" ")[2:]) if it)
             if len(block.intersection(loop)) > 1:  # two blocks have one system in common at most
-                return Refusal(fault.what, loop, tuple(sorted(links[link] & block - {self.own})), fault.note)
-        known = {fault.what for fault in old}
-        others = (it for it in new if it.what.startswith(ABOUT_OTHERS) and it.what not in known)
-        return next((Refusal(fault.what, note=fault.note) for fault in others), None)
+                return Refusal(fault, loop, tuple(sorted(links[link] & block - {self.own})))
+        others = (it for it in new if it.startswith(ABOUT_OTHERS) and it not in old)
+        return next(map(Refusal, others), None)

@@ -7,7 +7,7 @@ from types import TracebackType
 from typing import IO, Optional, Type
 
 from .calls import Called, call, program
-from .faults import Status, Stopped
+from .faults import Stopped
 from .printing import shown_path
 from .station import Station
 from .whole_files import mode_of
@@ -37,8 +37,8 @@ def refusal(path: str, name: str) -> Optional[Stopped]:
     ran = call(program(), "links", "--explain", path)
     if not ran.status:
         return None
-    status = Status.REFUSED if ran.status == Status.REFUSED else Status.FAILED
-    return Stopped(status, "\n".join([ran.first_line(), *notes_on(path, ran)]).replace(shown_path(path), name))
+    fault = ran.stopped(notes_on(path, ran))
+    return Stopped(fault.status, str(fault).replace(shown_path(path), name))
 
 
 class LinkFile:

@@ -91,7 +91,7 @@ class Pauses:
         last = "resumed %s: %d areas, %d messages%s" % (address, len(good), messages, ", %d purged" % purged if purged else "")
         unjudged = subscribing.unjudged()
         lines = [*subscribing.notes, *(it.line(address) for it in outcomes), *([unjudged] if unjudged else []), last]
-        return Reply(lines, Status.GOOD if len(good) == len(tags) else Status.HAND, subscribing.advice(outcomes))
+        return Reply(lines, Status.GOOD if len(good) == len(tags) else Status.HAND, subscribing.advice)
 
     def finish(self, link: Address, tag: str) -> int:
         """Sends a link what was scanned meanwhile, once, and drops the note. Returns how many messages that are."""

@@ -61,13 +61,15 @@ def link_named(station: Station, word: str) -> Address:
 
 
 class Subscribing:
-    """Changes the areas of a link. What is to be known of the judging goes to `notes`."""
+    """Changes the areas of a link. What is to be known of the judging goes to `notes`, and what a sysop may do
+    about it to `advice`."""
 
     def __init__(self, station: Station, link: Address, is_forced: bool = False) -> None:
         self.station = station
         self.link = link
         self.judge = None if is_forced else Judge(station)
         self.notes = [] if self.judge is None else self.judge.left_out
+        self.advice = [] if self.judge is None else self.judge.notes
         self.was_done = False
 
     def lacks(self, text: bytes, tag: str) -> bool:
@@ -101,11 +103,6 @@ class Subscribing:
                     file.install(with_link(file.text, tag_word(tag), self.link))
                     self.was_done = True
                 yield found
-
-    def advice(self, outcomes: list[Outcome]) -> list[str]:
-        """The notes on what was left out and on what was refused: what a sysop may do."""
-        left_out = [] if self.judge is None else self.judge.notes
-        return [*left_out, *(it.refusal.note for it in outcomes if it.refusal and it.refusal.note)]
 
     def unjudged(self) -> Optional[str]:
         """The line that says that nothing was judged."""

@@ -38,7 +38,7 @@ def subscribe_all(station: Station, link: Address, tags: list[str], is_forced: b
     unjudged = subscribing.unjudged()
     if unjudged:
         station.say(unjudged)
-    say_notes(subscribing.advice(outcomes))
+    say_notes(subscribing.advice)
     return outcomes
 
 
