@@ -18,7 +18,7 @@ run() {
 }
 post() { echo "Body of $1" | "$tool" one post "${2:-TEST}" All Ann "$1" > said; }
 last() { "$program" list one/base | tail -n 1; }
-toss() { run timeout 20 "$tool" one toss; }
+toss() { run timeout 300 "$tool" one toss; }
 
 # The moment of the last message in seconds: its date less the offset of its TZUTC line, or else that of this zone.
 moment() {
