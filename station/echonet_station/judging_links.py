@@ -64,20 +64,22 @@ def verdicts_in(output: str) -> dict[str, list[str]]:
 
 
 def faults_of(texts: Iterable[bytes]) -> dict[str, list[str]]:
-    """What `echonet check` finds in all areas of some link files. Systems without a file are assumed."""
+    """What `echonet check` finds in all areas of some link files. Systems without a file are assumed. Notes are asked for only if
+    it fails: those on the faults of areas would be many, and nobody reads them."""
     folder = tempfile.mkdtemp(prefix="echonet.")
-    words = ("check", "--all", "--more", "--explain", "--assume-missing", "--links-from", "-")
+    words = ("check", "--all", "--more", "--assume-missing", "--links-from", "-")
     try:
         paths = []
         for number, text in enumerate(texts):
             paths.append(join(folder, str(number)))
             with open(paths[-1], "wb") as file:
                 file.write(text)
-        ran = call(program(), *words, given="\n".join(paths).encode())
+        given = "\n".join(paths).encode()
+        ran = call(program(), *words, given=given)
+        if ran.status not in (Status.GOOD, Status.HAND):
+            raise ran.stopped(call(program(), *words, "--explain", given=given).notes())
     finally:
         shutil.rmtree(folder, ignore_errors=True)
-    if ran.status not in (Status.GOOD, Status.HAND):
-        raise ran.stopped()
     return verdicts_in(ran.output)
 
 
