@@ -1,7 +1,7 @@
 """How long a station and a hub take, against their limits: the best of eight runs by processor time, and the most memory.
 
 - runs: `run` without mail, and with 200 packets beside `echonet toss` of them, of one area and of 300.
-- bundle: `run` with a bundle of 37 MB: memory.
+- bundle: `run` with a bundle of 37 MB, also one that goes on to a link: memory.
 - links: a hub of 300 areas with 50 links and their 50 link files in net/. A letter to AreaFix with 200 lines, `subscribe`
   without and with new mail.
 - sums: the same hub. `stats` of a log of 200,000 lines of a year, `status --page` with the size of the page.
@@ -102,12 +102,17 @@ class Bench:
 
     def bundle(self):
         """A large bundle."""
-        folder = self.make("bundle", TAGS[:1])
-        messages = (message(number, TAGS[0], BUNDLE_SIZE // BUNDLE_MESSAGES) for number in range(BUNDLE_MESSAGES))
-        with zipfile.ZipFile(os.path.join(folder, "inbound", "0000ff90.su0"), "w", zipfile.ZIP_DEFLATED) as file:
-            file.writestr("x.pkt", packet(*messages))
-        self.row("gate with a bundle of 37 MB", 40, folder, STATION, "STATION", "gate", unit="MB")
-        self.row("run with a bundle of 37 MB", 40, folder, STATION, "STATION", "run", unit="MB")
+        content = packet(*(message(number, TAGS[0], BUNDLE_SIZE // BUNDLE_MESSAGES) for number in range(BUNDLE_MESSAGES)))
+        folders = [self.make(name, TAGS[:1], links) for name, links in (("bundle", (UPLINK,)), ("bundle that goes on", (UPLINK, LINKS[0])))]
+        for folder in folders:
+            with zipfile.ZipFile(os.path.join(folder, "inbound", "0000ff90.su0"), "w", zipfile.ZIP_DEFLATED) as file:
+                file.writestr("x.pkt", content)
+        # Its password is written into the packet, and a point makes this read all messages.
+        with open(os.path.join(folders[1], "peers"), "ab") as file:
+            file.write(b"PEER 2:5020/200 PASSWORD word\nPOINT 2:31000/7 2:5020/100.7\n")
+        self.row("gate with a bundle of 37 MB", 40, folders[0], STATION, "STATION", "gate", unit="MB")
+        self.row("run with a bundle of 37 MB", 40, folders[0], STATION, "STATION", "run", unit="MB")
+        self.row("run with a bundle of 37 MB that goes on", 40, folders[1], STATION, "STATION", "run", unit="MB")
 
     def hub(self, name):
         """A hub whose links have all areas. Returns its folder."""

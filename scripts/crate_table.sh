@@ -55,7 +55,7 @@ awk -F ' *[|] *' '
     count = split($2, own, " ")
     for (i = 1; i <= count; i++) height[own[i]] = group
     line = sprintf("%-9s %s", name, $2)
-    print ($3 == "" ? line : sprintf("%-56s  %s", line, $3))
+    print ($3 == "" ? line : line ": " $3)
     next
   }
   /^[a-z_]+:/ {

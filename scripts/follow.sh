@@ -41,14 +41,30 @@ good=0
 bad=0
 expected=
 command=
+deadline=0
 
 # Runs the command, in this shell so that folders, variables and jobs stay.
-type_it() {
-  if [ -z "$command" ]; then return; fi
+run_it() {
   set +eu
   eval "$command" > "$place/printed" 2>&1 < /dev/null
   set -eu
-  if [ "$(printf '%s' "$expected" | alike)" = "$(alike < "$place/printed")" ]; then
+}
+
+# Whether it printed what the document says.
+fits() { [ "$(printf '%s' "$expected" | alike)" = "$(alike < "$place/printed")" ]; }
+
+# Types a command. After a `sleep`, by which a reader waits for mailers, one that prints something else is repeated for at
+# most $most_wait seconds: a busy machine takes longer.
+most_wait=180
+type_it() {
+  if [ -z "$command" ]; then return; fi
+  run_it
+  until fits || [ $SECONDS -ge $deadline ]; do
+    sleep 1
+    run_it
+  done
+  case $command in 'sleep '*) deadline=$((SECONDS + most_wait)) ;; esac
+  if fits; then
     good=$((good + 1))
   else
     bad=$((bad + 1))
@@ -72,6 +88,7 @@ while IFS= read -r line; do
   case $line in
     '#'*)
       type_it
+      deadline=0
       wanted=no
       if is_wanted "${line##*# }"; then wanted=yes; fi
       ;;

@@ -11,7 +11,7 @@ program=bin/echonet
 
 install -D -m 755 "$program" "$to/bin/echonet"
 install -d "$to/share/man/man1"
-install -m 644 docs/*.1 "$to/share/man/man1"
+install -m 644 docs/echonet.1 "$to/share/man/man1"
 install -d "$to/share/echonet/echonet_station" "$to/share/echonet/fidonet" "$to/share/echonet/tools" "$to/share/doc/echonet/pictures" "$to/share/doc/echonet/examples"
 install -m 755 station/echonet-station "$to/share/echonet"
 install -m 644 station/echonet_station/*.py "$to/share/echonet/echonet_station"
@@ -49,6 +49,7 @@ all_completions() {
 all_completions completions.sh "$program"
 for tool in links-from links-seen net-page; do all_completions tool_completions.sh "tools/$tool"; done
 if command -v python3 > /dev/null; then
+  scripts/manual_pages.py "$to/share/man/man1"
   all_completions completions.sh station/echonet-station
   # Compiled modules start sooner. A package compiles them where it is installed.
   if [ -z "$1" ]; then python3 -m compileall -q "$to/share/echonet/echonet_station" "$to/share/echonet/fidonet"; fi

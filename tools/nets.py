@@ -15,6 +15,7 @@ HIDDEN = re.compile("[\0-\x1f\x7f-\x9f\u200e\u200f\u202a-\u202e\u2066-\u2069\ud8
 # A comment of links-seen on a link of the AREA line that follows.
 SEEN_LINE = re.compile(r"; ([0-9]+:[0-9]+/[0-9]+) ([0-9]+) messages, last (\S+)\r?")
 # A faulty line of a link file, as `echonet links` prints it.
+NOTE = "echonet: note: "
 PLACE = re.compile(r":[0-9]+: [LX][0-9]+ ")
 
 
@@ -130,13 +131,16 @@ class Program:
         return done.stdout.decode("utf-8", "replace")
 
     def faults_of_files(self, failed: Failed) -> str:
-        """The lines of a failure. For a faulty link file another one names the file and the line."""
+        """The lines of a failure. For faulty link files others name the files and the lines, and a note says what to do."""
         if failed.status != 2 or any(path in failed.lines for path in self.paths):
             return failed.lines
         given = b"".join(os.fsencode(path) + b"\0" for path in self.paths)
-        done = subprocess.run([self.name, "links", "--links-from", "-"], input=given, stdout=subprocess.PIPE, stderr=subprocess.DEVNULL, check=False)
-        lines = [line for line in done.stdout.decode("utf-8", "replace").splitlines() if PLACE.search(line)]
-        return "\n".join([failed.lines.rstrip("\n"), *lines])
+        found = []
+        for words in (("links", "--links-from", "-"), ("check", "--all", "--explain", "--links-from", "-")):
+            done = subprocess.run([self.name, *words], input=given, stdout=subprocess.PIPE, stderr=subprocess.PIPE, check=False)
+            lines = (done.stdout + done.stderr).decode("utf-8", "replace").splitlines()
+            found += [line for line in lines if PLACE.search(line) or line.startswith(NOTE)]
+        return "\n".join([failed.lines.rstrip("\n"), *found])
 
     def help_of_check(self) -> str:
         """The help of `check`."""

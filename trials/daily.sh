@@ -18,7 +18,7 @@ run() {
 }
 post() { echo "Body of $1" | "$tool" one post "${2:-TEST}" All Ann "$1" > said; }
 last() { "$program" list one/base | tail -n 1; }
-toss() { run timeout 20 "$tool" one toss; }
+toss() { run timeout 300 "$tool" one toss; }
 
 # The moment of the last message in seconds: its date less the offset of its TZUTC line, or else that of this zone.
 moment() {
@@ -83,7 +83,7 @@ toss
 expect "all of them are tossed again" [ "$status $(ls one/bad | grep -ic 'pkt$') $(ls one/inbound)" = "1 3 " ]
 rm -rf one/bad
 
-# What a mail of cron says: the command of the guide, with these scripts.
+# What a mail of cron says: the command of the guide, with this program.
 line=$(sed -n 's,^    \*/5 \* \* \* \* \(.*\),\1,p' "$top/docs/REFERENCE.md" | sed "s,/usr/bin/echonet-station,$tool,; s,/home/fido/net/two,one,")
 expect "the guide has a line for cron" [ -n "$line" ]
 cron() { sh -c "$line" > mail 2>&1 < /dev/null || true; }
@@ -184,7 +184,7 @@ expect "then it is posted" grep -q '^posted TEST' said
 rm -rf peered
 "$tool" peered new 1:10/1 Alpha 1:10/2 host secret TEST > said
 sed -i /ROUTE/d peered/peers
-peered=$(sed 's/one/peered/g' <<< "$line")
+peered=${line// one / peered }
 printf 'PK\3\4damaged' > peered/inbound/0000ff9c.mo0
 touch -d '1 hour ago' peered/inbound/0000ff9c.mo0
 cp peered/inbound/0000ff9c.mo0 bundle

@@ -1,9 +1,9 @@
 #!/usr/bin/env bash
 # Runs every command where a file may not grow, where the disk is full, and where standard output is full. Each ends
-# with one fault line and status 3. The base is the old one or the new one, whole. No packet is incomplete, and no
-# other file is left. The small disk is a tmpfs, which needs root. On folders each command is tried with one page more
-# until it has enough. Then it is tried once more with the disk emptied. Arguments: `files` or `folders`, how many
-# limits of a file's size are tried.
+# with one fault line and status 3. The base is the old one or the new one, whole, and no packet is incomplete. Then the
+# command runs again with room, and no staging file is left. The small disk is a tmpfs, which needs root. On folders each
+# command is tried with one page more until it has enough. Arguments: `files` or `folders`, how many limits of a file's
+# size are tried.
 set -eu
 cd "$(dirname "$0")/.."
 . trials/lib/setting.sh
@@ -71,7 +71,8 @@ limit() {
   look_at_files "$1" "$status"
   if [ "$most" -gt $(($2 * 1024)) ]; then
     expect "$1 at $2 blocks: one line and 3" ended_with_fault "$status" 3 fault "echonet: cannot use "
-    expect "$1: no staging file is left" is_none base.*.new out/*.new
+    expect "$1: no staging file of the base is left" is_none base.*.new
+    start_again "$1"
   fi
   # The signal of a file that grows too large may end the program if it is not ignored.
   start "$1"
@@ -117,16 +118,15 @@ fill() {
   fi
   expect "$1 with $2 kB left on the disk: one line and 3" ended_with_fault "$status" 3 fault "echonet: cannot use "
   expect "$1: the old base" base_is disk/base "$1.before"
-  expect "$1: no staging file is left" is_none disk/base.*.new disk/out/*.new
+  expect "$1: no staging file of the base is left" is_none disk/base.*.new
   for packet in disk/out/*.pkt; do
     [ -e "$packet" ] || continue
     expect "$1: a whole packet" cmp -s "$packet" "$(basename "$packet")"
   done
-  if [ $kind = folders ]; then
-    rm disk/other
-    expect "$1 on the emptied disk" eval "( cd disk; run_command $1 ) > /dev/null"
-    expect "$1: the new base at last" base_is disk/base "$1.after"
-  fi
+  rm disk/other
+  expect "$1 on the emptied disk" eval "( cd disk; run_command $1 ) > /dev/null"
+  expect "$1: the new base at last" base_is disk/base "$1.after"
+  expect "$1: no staging file is left" is_none disk/base.*.new disk/out/*.new
 }
 
 # With a page more each time, until a command on folders has room enough.

@@ -13,8 +13,8 @@ cd "$work"
 tool=$top/station/echonet-station
 
 post() { echo "Body of $1" | "$tool" one post TEST All Ann "$1" > said; }
-scan() { timeout 20 "$tool" one scan; }
-toss() { timeout 20 "$tool" two toss; }
+scan() { timeout 300 "$tool" one scan; }
+toss() { timeout 300 "$tool" two toss; }
 run() {
   status=0
   "$@" > said 2> fault || status=$?

@@ -73,9 +73,9 @@ def messages_of(station: Station) -> dict[str, int]:
     """How many messages the base has of each area."""
     if not lexists(station.at("base")):
         return {}
-    ran = call(program(), "list", "--areas", station.at("base"))
+    ran = call(program(), "list", "--explain", "--areas", station.at("base"))
     if ran.status:
-        raise Stopped(Status.REFUSED if ran.status == Status.REFUSED else Status.FAILED, ran.faults.strip().split("\n")[0])
+        raise ran.stopped()
     return {tag: int(count) for tag, count in LISTED.findall(ran.output)}
 
 

@@ -9,7 +9,7 @@ from .printing import shown
 from .station import Station
 
 MOST_NAME = 200
-PIECE = 1 << 20
+PIECE = 1 << 16
 BY_GATE = "gate: "  # `retoss` knows by this word what did not pass the gate
 
 

@@ -5,9 +5,11 @@ import os
 import subprocess
 from typing import NamedTuple, Optional
 
+from .faults import Status, Stopped
 from .signals import Waiting
 
 KILLED = 128  # as a shell counts signals
+NOTE = "echonet: note: "  # what a line begins with that says in words what a fault is, where, and what to do
 
 
 class Called(NamedTuple):
@@ -20,6 +22,16 @@ class Called(NamedTuple):
     def first_line(self) -> str:
         """What it printed first, in its output or else on its standard error."""
         return (self.output + self.faults).strip().split("\n")[0]
+
+    def notes(self) -> list[str]:
+        """The notes on its faults."""
+        return [line for line in self.faults.split("\n") if line.startswith(NOTE)]
+
+    def stopped(self, notes: Optional[list[str]] = None) -> Stopped:
+        """The end of a run that needed this call: its fault, or else what it printed first, and the notes."""
+        status = Status.REFUSED if self.status == Status.REFUSED else Status.FAILED
+        lines = [line for line in (self.faults + self.output).split("\n") if line and not line.startswith(NOTE)]
+        return Stopped(status, "\n".join([*lines[:1], *(self.notes() if notes is None else notes)]))
 
 
 # Descriptors of locks that a called program keeps: if this process is killed, the next run waits for that program.

@@ -8,8 +8,9 @@ from typing import Iterator
 
 from fidonet.addresses import Address
 
-from .calls import call, program
+from .calls import program
 from .faults import Status, Stopped
+from .link_file import refusal
 from .mailer import Finding, configuration, look_at_mailer
 from .printing import shown_path
 from .read_only_links import look_at_read_only
@@ -21,8 +22,9 @@ OTHERS_MAY = 0o077
 
 def look_at_links(station: Station) -> Iterator[Finding]:
     """The link file, and the lines of `peers` for its links."""
-    ran = call(program(), "links", "--areas", station.at("links"))
-    yield Finding("link file", ran.status == Status.GOOD, ran.first_line())
+    path = station.at("links")
+    fault = refusal(path, path)
+    yield Finding("link file", fault is None, str(fault))
     try:
         station.load()
     except Stopped as fault:

@@ -5,7 +5,6 @@ import os
 import re
 import stat
 import sys
-import zlib
 from os.path import getsize, join, lexists
 from typing import Optional
 
@@ -204,8 +203,7 @@ class Gate:
             verdict = self.judge.judge(packet, is_member=True)
             why: Optional[str] = None
             if verdict.way is Way.BACK:
-                content = bytes(packet.memory)
-                give_back(self.station, content, zlib.crc32(content))
+                give_back(self.station, packet)
             elif verdict.way is Way.ASIDE:
                 why = verdict.why
             else:

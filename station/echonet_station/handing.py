@@ -14,6 +14,7 @@ from .faults import Status
 from .holds import Held, Holds
 from .running import say_fault
 from .station import Station, names_in
+from .whole_files import content_of
 
 SCANNED = re.compile(r"([0-9]+)\.([0-9]+)\.([0-9]+)\.(.*)", re.S)
 ENDINGS = (".pkt", ".ask", ".ids")
@@ -197,15 +198,6 @@ class Handing:
             self.disk.unlink(flow + ".new")
             raise
         self.disk.sync(dirname(flow))
-
-
-def content_of(path: str) -> bytes:
-    """The bytes of a file: none, if it is not there."""
-    try:
-        with open(path, "rb") as file:
-            return file.read()
-    except FileNotFoundError:
-        return b""
 
 
 def lines_of(path: str) -> set[str]:

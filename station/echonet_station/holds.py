@@ -49,7 +49,8 @@ def is_left(path: str) -> bool:
 
 
 class Holds:
-    """The holds of a station. While a link is held, its hold has a second name, by which a later run knows it."""
+    """The holds of a station. While a link is held, its hold has a second name, by which a later run knows it. It has that
+    name on the disk first, and loses it last, so no power cut leaves a hold that the next run takes for another's."""
 
     def __init__(self, disk: Disk, own: str) -> None:
         self.disk = disk

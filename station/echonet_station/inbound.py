@@ -7,9 +7,10 @@ import time
 from os.path import join, lexists
 from typing import Optional
 
+from .aside import is_same
 from .bundles import BUNDLE_NAME, END_SIZE, NO_END, Kind, fault_of_zip, kind_of
 from .disk import Disk
-from fidonet.packets import HEADER_SIZE, header_of
+from fidonet.packets import HEADER_SIZE, Packet, header_of
 
 from .printing import shown_path
 from .station import Station, names_in
@@ -123,19 +124,19 @@ def next_free(folder: str, number: int) -> int:
     return number
 
 
-def give_back(station: Station, content: bytes, number: int) -> None:
+def give_back(station: Station, packet: Packet) -> None:
     """Gives a packet out of a bundle to the station that it is for: back to the mailer's folder, never over a file."""
     disk, path = station.disk, station.at("gate", "back.new")
-    disk.write(path, content)
+    disk.write(path, packet.whole())
+    number = packet.checksum()
     while True:
         name = join(station.inbound, "%08x.pkt" % (number & 0xFFFFFFFF))
         try:
             disk.link(path, name)
             break
         except FileExistsError:
-            with open(name, "rb") as file:
-                if file.read(len(content) + 1) == content:
-                    break
+            if is_same(path, name):
+                break
             number += 1
     disk.sync(station.inbound)
     disk.unlink(path)

@@ -93,7 +93,7 @@ class Judge:
         if why:
             return Verdict(Way.ASIDE, begin, sender, why)
         points = set() if header.sender in self.peers.fake_of else self.station.point_places
-        links = self.links if packet.memory.find(RESCANNED) >= 0 else {}
+        links = self.links if packet.contains(RESCANNED) else {}
         verdict = Verdict(Way.ON, self.passed_header(begin, header), sender, points=points, links=links)
         self.sort(packet, header, verdict)
         return verdict

@@ -12,7 +12,7 @@ from fidonet.addresses import Address, address_of
 
 from .blocks import Links, block_of
 from .calls import call, program
-from .faults import Status, Stopped
+from .faults import Status
 from .link_lines import links_in, reduced, with_area
 from .net_files import NetFiles
 from .station import Station
@@ -64,19 +64,22 @@ def verdicts_in(output: str) -> dict[str, list[str]]:
 
 
 def faults_of(texts: Iterable[bytes]) -> dict[str, list[str]]:
-    """What `echonet check` finds in all areas of some link files. Systems without a file are assumed."""
+    """What `echonet check` finds in all areas of some link files. Systems without a file are assumed. Notes are asked for only if
+    it fails: those on the faults of areas would be many, and nobody reads them."""
     folder = tempfile.mkdtemp(prefix="echonet.")
+    words = ("check", "--all", "--more", "--assume-missing", "--links-from", "-")
     try:
         paths = []
         for number, text in enumerate(texts):
             paths.append(join(folder, str(number)))
             with open(paths[-1], "wb") as file:
                 file.write(text)
-        ran = call(program(), "check", "--all", "--more", "--assume-missing", "--links-from", "-", given="\n".join(paths).encode())
+        given = "\n".join(paths).encode()
+        ran = call(program(), *words, given=given)
+        if ran.status not in (Status.GOOD, Status.HAND):
+            raise ran.stopped(call(program(), *words, "--explain", given=given).notes())
     finally:
         shutil.rmtree(folder, ignore_errors=True)
-    if ran.status not in (Status.GOOD, Status.HAND):
-        raise Stopped(Status.REFUSED if ran.status == Status.REFUSED else Status.FAILED, ran.faults.strip().split("\n")[0])
     return verdicts_in(ran.output)
 
 
@@ -98,7 +101,7 @@ class Judge:
     def __init__(self, station: Station) -> None:
         self.own = station.own
         net = NetFiles(station)
-        self.left_out = net.left_out
+        self.left_out, self.notes = net.left_out, net.notes
         self.has_net = net.has_any
         self.files = [file for file in net.files if file.owner != self.own]
 

@@ -1,13 +1,14 @@
 """A loop that is seen in the mail: a link sends much that is known."""
 from __future__ import annotations
 
-import time
 from dataclasses import dataclass
+
+from typing import Optional
 
 from fidonet.addresses import address_of
 
 from .arrivals import arrivals_in
-from .log_sums import DAY, sums_since
+from .log_sums import LogSums, sums_of_days
 from .station import Station
 
 DAYS = 7
@@ -29,9 +30,9 @@ class KnownLoop:
         return "known: %d of %d messages of %s from %s were known in %d days: a loop, or a rescan (net-page)" % what
 
 
-def loops_seen(station: Station) -> list[KnownLoop]:
-    """The areas and links with many known messages. Only then the base is read."""
-    (sums,) = sums_since(station, time.time() - DAYS * DAY)
+def loops_seen(station: Station, sums: Optional[LogSums] = None) -> list[KnownLoop]:
+    """The areas and links with many known messages, by the sums of these days. Only then the base is read."""
+    sums = sums or sums_of_days(station, DAYS)[DAYS]
     many = {key: count for key, count in sums.known.items() if count >= LEAST}
     if not many:
         return []

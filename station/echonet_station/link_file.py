@@ -6,8 +6,9 @@ import os
 from types import TracebackType
 from typing import IO, Optional, Type
 
-from .calls import call, program
-from .faults import Status, Stopped
+from .calls import Called, call, program
+from .faults import Stopped
+from .printing import shown_path
 from .station import Station
 from .whole_files import mode_of
 
@@ -26,13 +27,18 @@ def locked(path: str) -> IO[bytes]:
         file.close()
 
 
-def refusal(path: str) -> Optional[Stopped]:
-    """Why `echonet links` refuses a file."""
-    ran = call(program(), "links", path)
+def notes_on(path: str, ran: Called) -> list[str]:
+    """The notes on a file that `echonet links` did not take. On a fault in a line `echonet check` has one."""
+    return ran.notes() or call(program(), "check", "--all", "--explain", path).notes()
+
+
+def refusal(path: str, name: str) -> Optional[Stopped]:
+    """Why `echonet links` refuses a file that is to have another name, which people are told."""
+    ran = call(program(), "links", "--explain", path)
     if not ran.status:
         return None
-    status = Status.REFUSED if ran.status == Status.REFUSED else Status.FAILED
-    return Stopped(status, ran.first_line())
+    fault = ran.stopped(notes_on(path, ran))
+    return Stopped(fault.status, str(fault).replace(shown_path(path), name))
 
 
 class LinkFile:
@@ -79,7 +85,7 @@ class LinkFile:
         disk = self.station.disk
         disk.stage(path, text)
         disk.set_mode(path, mode_of(self.path))
-        fault = refusal(path)
+        fault = refusal(path, self.path)
         if fault:
             raise fault
         disk.flush(path)

@@ -5,7 +5,6 @@ from dataclasses import dataclass
 from typing import Iterator
 
 from .calls import call, program
-from .faults import Status, Stopped
 from .station import Station
 
 WAITING, PURGED, SCANNED = "waiting", "purged", ""
@@ -23,10 +22,10 @@ class Line:
 
 def lines_of(station: Station, first: int, tag: str = "") -> Iterator[Line]:
     """The messages from a number on, of one area or of all. Tags are as they are printed."""
-    words = ("list", "--short", *(("--area", tag) if tag else ()), "--from", str(first), station.at("base"))
+    words = ("list", "--explain", "--short", *(("--area", tag) if tag else ()), "--from", str(first), station.at("base"))
     ran = call(program(), *words)
     if ran.status:
-        raise Stopped(Status.REFUSED if ran.status == Status.REFUSED else Status.FAILED, ran.first_line())
+        raise ran.stopped()
     for line in ran.output.split("\n"):
         number, _, rest = line.partition(" ")
         if number.isdecimal():

@@ -1,19 +1,23 @@
 """What the log of a station says of links, areas and days: its file `log`, and the parts that were rotated."""
 from __future__ import annotations
 
+import contextlib
 import gzip
+import io
+import os
 import re
 import time
 import zlib
-from collections import Counter
+from collections import Counter, defaultdict
 from dataclasses import dataclass, field
-from typing import Iterator
+from typing import IO, Iterator
 
 from .station import Station, names_in
-from .whole_files import content_of
 
 DAY = 86400
+PIECE = 1 << 19  # some thousand lines
 LEAST_DATE = 10000000  # logrotate may name parts by numbers, or by dates of eight digits
+DATE_SIZE = 10
 STAMP = re.compile(rb"[0-9]{4}-[0-9]{2}-[0-9]{2}T")
 PART = re.compile(r"log(?:[.-][0-9]+)?(?:\.gz)?")
 # A name is a stranger's, and may have any words. What counts is what stands last.
@@ -51,20 +55,16 @@ class DaySums:
 class LogSums:
     """The sums of some days. Addresses are those on the net."""
 
-    links: dict[str, LinkSums] = field(default_factory=dict)
-    days: dict[str, DaySums] = field(default_factory=dict)
+    links: defaultdict[str, LinkSums] = field(default_factory=lambda: defaultdict(LinkSums))
+    days: defaultdict[str, DaySums] = field(default_factory=lambda: defaultdict(DaySums))
     known: Counter[tuple[str, str]] = field(default_factory=Counter)  # by area and link
-
-    def link(self, address: bytes) -> LinkSums:
-        """The sums of a link."""
-        return self.links.setdefault(address.decode("latin-1"), LinkSums())
 
     def add(self, found: re.Match[bytes]) -> None:
         """Adds a line."""
         stamp, kind, sender, filed, known, count, tag, of, to, messages, size = found.groups()
         moment = stamp.decode("ascii")
         if kind:
-            link, day = self.link(sender), self.days.setdefault(moment[:10], DaySums())
+            link, day = self.links[sender.decode("latin-1")], self.days[moment[:10]]
             link.came += int(filed or 0) + int(known or 0)
             link.known += int(known or 0)
             link.aside += kind == b"aside"
@@ -73,7 +73,7 @@ class LogSums:
         elif count:
             self.known[tag.decode("latin-1"), of.decode("latin-1")] += int(count)
         else:
-            link, day = self.link(to), self.days.setdefault(moment[:10], DaySums())
+            link, day = self.links[to.decode("latin-1")], self.days[moment[:10]]
             link.sent += int(messages or 0)
             link.bytes += int(size)
             link.last_sent = max(link.last_sent, moment)
@@ -111,26 +111,54 @@ def age_of(name: str) -> int:
     return number if number < LEAST_DATE else 10 * LEAST_DATE - number
 
 
-def parts_of(station: Station) -> Iterator[bytes]:
-    """The parts of the log, the youngest first."""
+def is_older(piece: bytes, since: float) -> bool:
+    """Whether no line of a piece of a log is of the day of a time, or of a later one."""
+    first = piece.find(b"\n") + 1
+    return piece[first : first + DATE_SIZE] < stamp_of(since)[:DATE_SIZE].encode() and begin_of(piece, since) == len(piece)
+
+
+def end_of(file: IO[bytes], since: float) -> tuple[bytes, bool]:
+    """The lines of a log from a time on, with some before them, and whether older ones were left out. A log may have years, so
+    it is read from its end. A clock may have been wrong for some lines, so that ends only where a whole piece is older."""
+    pieces: list[bytes] = []
+    place = file.seek(0, os.SEEK_END)
+    while place and not (pieces and is_older(pieces[-1], since)):
+        size = min(PIECE, place)
+        place = file.seek(place - size)
+        pieces.append(file.read(size))
+    return b"".join(reversed(pieces)), place > 0
+
+
+def unpacked(file: IO[bytes]) -> IO[bytes]:
+    """What a part has that was packed: nothing, if it is damaged."""
+    try:
+        return io.BytesIO(gzip.decompress(file.read()))
+    except (gzip.BadGzipFile, EOFError, zlib.error):
+        return io.BytesIO()
+
+
+def ends_of_parts(station: Station, since: float) -> Iterator[tuple[bytes, bool]]:
+    """The same of the parts of the log, the youngest first."""
     for name in sorted(filter(PART.fullmatch, names_in(station.folder)), key=age_of):
-        content = content_of(station.at(name))
-        try:
-            yield gzip.decompress(content) if name.endswith(".gz") else content
-        except (OSError, EOFError, zlib.error):
-            continue
+        with contextlib.suppress(FileNotFoundError), open(station.at(name), "rb") as file:  # it may be rotated meanwhile
+            yield end_of(unpacked(file) if name.endswith(".gz") else file, since)
 
 
 def sums_since(station: Station, *seconds: float) -> list[LogSums]:
     """The sums from some times on, the first of which is the earliest."""
-    bounds = [stamp_of(second) for second in seconds]
+    bounds = [stamp_of(second).encode() for second in seconds]
     found = [LogSums() for _ in bounds]
-    for content in parts_of(station):
+    for content, is_cut in ends_of_parts(station, seconds[0]):
         for line in LINE.finditer(content, begin_of(content, seconds[0])):
-            stamp = line[1].decode("ascii")
             for bound, sums in zip(bounds, found):
-                if stamp >= bound:
+                if line[1] >= bound:
                     sums.add(line)
-        if content[: len(bounds[0])] < bounds[0].encode() and STAMP.match(content):
+        if is_cut or (content[: len(bounds[0])] < bounds[0] and STAMP.match(content)):
             break  # the other parts are older
     return found
+
+
+def sums_of_days(station: Station, *days: int) -> dict[int, LogSums]:
+    """The sums of the last days, by their numbers, of which the first is the greatest."""
+    now = time.time()
+    return dict(zip(days, sums_since(station, *(now - number * DAY for number in days))))

@@ -9,9 +9,10 @@ from os.path import isdir, join, lexists
 
 from fidonet.addresses import Address, address_of
 
-from .calls import call, program
+from .calls import program
 from .disk import Disk
 from .faults import Status, Stopped
+from .link_file import refusal
 from .mailer import BUNDLE_MASKS
 from .options import Given, given_by
 from .peers import MOST_PASSWORD
@@ -150,12 +151,11 @@ def check_links(disk: Disk, path: str, text: str) -> None:
     """Asks `echonet` about the link file before anything else is made."""
     disk.write(path, text.encode("utf-8", "surrogateescape"))
     try:
-        ran = call(program(), "links", path)
+        fault = refusal(path, "links")
     finally:
         disk.unlink(path)
-    if ran.status:
-        status = Status.REFUSED if ran.status == Status.REFUSED else Status.FAILED
-        raise Stopped(status, ran.first_line())
+    if fault:
+        raise fault
 
 
 def new(folder: str, words: list[str]) -> int:

@@ -1,4 +1,5 @@
-"""The charset of what is posted here: that of `settings`, or UTF-8."""
+"""The charset of what is posted here: that of `settings`, or UTF-8. Names that are no UTF-8 go as a mail message, since
+words of a command line have to be UTF-8."""
 from __future__ import annotations
 
 from dataclasses import dataclass

@@ -14,6 +14,7 @@ from fidonet.packets import Packet
 from .faults import Status, Stopped
 from .options import given_by
 from .rescans import purged_from, scanned_of, send_from
+from .running import say_notes
 from .station import Station
 from .subscribing import Subscribing, What, areas_with, link_named, shown_tag, unsubscribe_each
 from .whole_files import content_of, replace
@@ -29,6 +30,7 @@ class Reply:
 
     lines: list[str] = field(default_factory=list)
     status: Status = Status.GOOD
+    notes: list[str] = field(default_factory=list)  # for the sysop, not for the link
 
 
 class Pauses:
@@ -89,7 +91,7 @@ class Pauses:
         last = "resumed %s: %d areas, %d messages%s" % (address, len(good), messages, ", %d purged" % purged if purged else "")
         unjudged = subscribing.unjudged()
         lines = [*subscribing.notes, *(it.line(address) for it in outcomes), *([unjudged] if unjudged else []), last]
-        return Reply(lines, Status.GOOD if len(good) == len(tags) else Status.HAND)
+        return Reply(lines, Status.GOOD if len(good) == len(tags) else Status.HAND, subscribing.advice)
 
     def finish(self, link: Address, tag: str) -> int:
         """Sends a link what was scanned meanwhile, once, and drops the note. Returns how many messages that are."""
@@ -124,6 +126,7 @@ def reply_of(station: Station, reply: Reply) -> int:
         raise Stopped(Status.REFUSED, reply.lines[-1])
     for line in reply.lines:
         station.say(line)
+    say_notes(reply.notes)
     return reply.status
 
 

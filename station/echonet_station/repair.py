@@ -9,9 +9,10 @@ from .faults import Status, Stopped
 from .lists import make_packet, send_packet
 from .printing import shown_age, shown_path
 from .rounds import Pair, Round
-from .scan import scan_now
+from .running import status_of_command
+from .scan import scan
 from .station import Station
-from .toss import toss_now
+from .toss import toss
 
 ALL, AGAIN = "--all", "--again"
 IN_ORDER = "in order"
@@ -151,10 +152,10 @@ def repair(station: Station, words: list[str]) -> int:
     if options - {ALL, AGAIN} or len(options) > 1:
         raise Stopped(Status.COMMAND, "repair takes --all or --again")
     words = [word for word in words if word not in options]
-    for run in (toss_now, scan_now):
-        ended = run(station, is_quiet=True)
+    for run in (toss, scan):
+        ended = status_of_command(run, station, is_quiet=True)
         if ended > Status.HAND:
             return ended
     status = step(station, options, words)
     station.unlock()
-    return max(status, scan_now(station, is_quiet=True))
+    return max(status, status_of_command(scan, station, is_quiet=True))

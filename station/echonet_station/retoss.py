@@ -8,8 +8,9 @@ from .faults import Status, Stopped
 from .inbound import next_free
 from .passing import Passing
 from .printing import shown_path
+from .running import status_of_command
 from .station import Station
-from .toss import toss_now
+from .toss import toss
 
 
 def to_toss(station: Station, name: str, passing: Passing) -> None:
@@ -57,4 +58,4 @@ def retoss(station: Station, words: list[str]) -> int:
     move_back(station, chosen)
     station.unlock()
     station.say("retoss %d files" % len(chosen))
-    return toss_now(station)
+    return status_of_command(toss, station)

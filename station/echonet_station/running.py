@@ -2,17 +2,26 @@
 from __future__ import annotations
 
 import sys
-from typing import Callable
+from typing import TYPE_CHECKING, Callable
 
 from fidonet import outputs
 
 from .faults import Status, Stopped
 from .signals import Ended
 
+if TYPE_CHECKING:
+    from .station import Station
+
 
 def say_fault(line: str) -> None:
     """A line on standard error."""
     print("echonet-station: %s" % line, file=sys.stderr, flush=True)
+
+
+def say_notes(notes: list[str]) -> None:
+    """Notes of `echonet` on standard error, each once."""
+    for note in dict.fromkeys(notes):
+        print(note, file=sys.stderr, flush=True)
 
 
 def status_of(work: Callable[[], int]) -> int:
@@ -30,6 +39,15 @@ def status_of(work: Callable[[], int]) -> int:
     except Exception as fault:  # pylint: disable=broad-except
         say_fault("%s: %s" % (type(fault).__name__, fault))
     return Status.FAILED
+
+
+def status_of_command(command: Callable[[Station, list[str]], int], station: Station, is_quiet: bool = False) -> int:
+    """The status of a command that another one calls, for the same folder."""
+    from .station import Station
+
+    other = Station(station.folder, station.disk)
+    other.is_quiet = is_quiet
+    return status_of(lambda: command(other, []))
 
 
 def whole_status_of(work: Callable[[], int]) -> int:

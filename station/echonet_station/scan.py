@@ -140,10 +140,3 @@ def scan(station: Station, _: list[str]) -> int:
         return Scan(station).run()
     finally:
         station.unlock()
-
-
-def scan_now(station: Station, is_quiet: bool = False) -> int:
-    """Scans, for another command."""
-    other = Station(station.folder, station.disk)
-    other.is_quiet = is_quiet
-    return status_of(lambda: scan(other, []))

@@ -6,7 +6,7 @@ import os
 import re
 import time
 from os.path import exists, join
-from typing import Iterator, Optional
+from typing import TYPE_CHECKING, Iterator, Optional
 
 from .bad_files import bad_files, first_line, new_areas
 from .bundles import BUNDLE_NAME
@@ -18,6 +18,9 @@ from .options import given_by
 from .printing import shown_age, shown_path
 from .station import Station, names_in
 from .words import BY_NAME
+
+if TYPE_CHECKING:
+    from .log_sums import LogSums
 
 LATE = 600  # seconds in which a received file is tossed, and a letter sent
 LATE_PACKET = 3 * 86400
@@ -34,8 +37,8 @@ def age(path: str) -> float:
 class Report:
     """The lines of a report. Those that need a hand come at the end."""
 
-    def __init__(self, station: Station) -> None:
-        self.station = station
+    def __init__(self, station: Station, sums: Optional[dict[int, LogSums]] = None) -> None:
+        self.station, self.sums = station, sums  # the log's, if a page shows them
         self.lines: list[str] = []
         self.facts: dict[str, list[dict[str, object]]] = {}
         self.hands: list[str] = []
@@ -202,9 +205,9 @@ class Report:
     def known(self) -> None:
         """Whether links send messages again that are known: a loop. Without a log its module is not imported."""
         if exists(self.station.at("log")):
-            from .known_loops import loops_seen
+            from .known_loops import DAYS, loops_seen
 
-            for loop in loops_seen(self.station):
+            for loop in loops_seen(self.station, self.sums[DAYS] if self.sums else None):
                 self.hand(str(loop))
 
     def repairs(self) -> None:
@@ -230,16 +233,25 @@ def status(station: Station, words: list[str]) -> int:
     """The command `status`."""
     given = given_by(BY_NAME["status"], words)
     station.load()
+    if given.has("--page") and not given.has("--json"):
+        return page(station, given.one("--page"))
     report = Report(station)
     ended = report.look()
     if given.has("--json"):
         from .status_page import as_object
 
         station.say(json.dumps(as_object(report.facts, report.hands)))
-    elif given.has("--page"):
-        from .status_page import write_page
-
-        write_page(station, given.one("--page"), report.facts, report.hands)
     else:
         report.show()
+    return ended
+
+
+def page(station: Station, path: str) -> Status:
+    """The same, as a page. The log is read once, for the page and for loops."""
+    from .status_page import Page, sums_of_page, write_page
+
+    sums = sums_of_page(station)
+    report = Report(station, sums)
+    ended = report.look()
+    write_page(Page(station, report.facts, report.hands, sums), path)
     return ended

@@ -9,14 +9,16 @@ from fidonet.addresses import Address, address_of
 
 from .arrivals import arrivals_in
 from .disk import Disk
-from .log_sums import DAY, LinkSums, sums_since
+from .known_loops import DAYS
+from .log_sums import LinkSums, LogSums, sums_of_days
 from .printing import shown_age
 from .station import Station
 
 Facts = dict[str, list[dict[str, object]]]
+Sums = dict[int, LogSums]
 PLURALS = {"area": "areas", "link": "links", "new": "new"}
 ALONE = ("station", "toss", "scan", "bad", "letters", "repair", "disk")
-BARS = (7, 30)  # days
+BARS = (DAYS, 30)  # days: those of loops, too
 WIDTH = 90  # pixels of the longest bar
 STYLE = (
     "body{font:15px/1.4 system-ui,sans-serif;margin:1.5em auto;max-width:70em;padding:0 1em;color:#222;background:#fff}"
@@ -60,11 +62,8 @@ def table(title: str, heads: list[str], rows: list[str]) -> str:
 class Page:
     """The page of a station."""
 
-    def __init__(self, station: Station, facts: Facts, hands: list[str]) -> None:
-        self.station, self.facts, self.hands = station, facts, hands
-        now = time.time()
-        long, short = max(BARS), min(BARS)
-        self.sums = dict(zip((long, short), sums_since(station, now - long * DAY, now - short * DAY)))
+    def __init__(self, station: Station, facts: Facts, hands: list[str], sums: Sums) -> None:
+        self.station, self.facts, self.hands, self.sums = station, facts, hands, sums
         self.arrived = {days: it.filed for days, it in zip(BARS, arrivals_in(station, *BARS))}
 
     def link_rows(self) -> list[str]:
@@ -121,9 +120,14 @@ class Page:
         return "never" if seconds is None else "%s ago" % shown_age(float(str(seconds)))
 
 
-def write_page(station: Station, path: str, facts: Facts, hands: list[str]) -> None:
+def sums_of_page(station: Station) -> Sums:
+    """What the log says, by days."""
+    return sums_of_days(station, *sorted(BARS, reverse=True))
+
+
+def write_page(page: Page, path: str) -> None:
     """Writes the page whole."""
     disk = Disk()
-    disk.write(path + ".new", Page(station, facts, hands).text().encode("utf-8", "replace"))
+    disk.write(path + ".new", page.text().encode("utf-8", "replace"))
     disk.rename(path + ".new", path)
     disk.sync(os.path.dirname(os.path.abspath(path)))

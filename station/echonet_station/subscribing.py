@@ -1,4 +1,5 @@
-"""Gives links areas, and takes them away: each is one change of the link file, which is judged first."""
+"""Gives links areas, and takes them away: each is one change of the link file, which is judged first. So a kill leaves what
+was printed."""
 from __future__ import annotations
 
 import os
@@ -61,13 +62,15 @@ def link_named(station: Station, word: str) -> Address:
 
 
 class Subscribing:
-    """Changes the areas of a link. What is to be known of the judging goes to `notes`."""
+    """Changes the areas of a link. What is to be known of the judging goes to `notes`, and what a sysop may do
+    about it to `advice`."""
 
     def __init__(self, station: Station, link: Address, is_forced: bool = False) -> None:
         self.station = station
         self.link = link
         self.judge = None if is_forced else Judge(station)
         self.notes = [] if self.judge is None else self.judge.left_out
+        self.advice = [] if self.judge is None else self.judge.notes
         self.was_done = False
 
     def lacks(self, text: bytes, tag: str) -> bool:

@@ -8,6 +8,7 @@ from .options import Given, given_by, refused
 from .pausing import Pauses
 from .peer_lines import read_only_too
 from .rescans import rescan
+from .running import say_notes
 from .seen_links import look_if_grown
 from .station import Station
 from .subscribing import Outcome, Subscribing, What, areas_with, link_named, shown_tag, tag_named, unsubscribe_each
@@ -37,6 +38,7 @@ def subscribe_all(station: Station, link: Address, tags: list[str], is_forced: b
     unjudged = subscribing.unjudged()
     if unjudged:
         station.say(unjudged)
+    say_notes(subscribing.advice)
     return outcomes
 
 

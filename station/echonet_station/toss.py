@@ -188,7 +188,7 @@ class Toss:
         if len(os.fsencode(came)) > MOST_NAME:
             came = basename(packet)
         name = next(name for name in numbered(came) if not lexists(join(folder, name)))
-        self.disk.write(join(folder, name + ".why"), os.fsencode("\n".join([reason, *more, ""])))
+        self.disk.write(join(folder, name + ".why"), (os.fsencode(line + "\n") for line in (reason, *more)))
         self.disk.sync(folder)
         self.note_answer(came, "aside", told)
         print("put aside %s: %s" % (shown_path(name), reason), file=sys.stderr, flush=True)
@@ -289,10 +289,3 @@ def toss(station: Station, _: list[str]) -> int:
         return Toss(station).run()
     finally:
         station.unlock()
-
-
-def toss_now(station: Station, is_quiet: bool = False) -> int:
-    """Tosses, for another command."""
-    other = Station(station.folder, station.disk)
-    other.is_quiet = is_quiet
-    return status_of(lambda: toss(other, []))

@@ -12,14 +12,13 @@ from typing import IO, Optional
 from fidonet.addresses import Address
 from fidonet.messages import MOST_TEXT
 
-from .calls import kept_locks, program, status_of
+from .calls import NOTE, kept_locks, program, status_of
 from .faults import Status
 from .signals import Waiting
 from .station import Station
 
 COUNTS = re.compile(r"filed ([0-9]+) known ([0-9]+) notecho ([0-9]+) badtag ([0-9]+) noarea ([0-9]+) notlinked ([0-9]+)")
 MESSAGE = re.compile(r"message [0-9]+ at [0-9]+ ([a-z]+)(?: area (\S+))?")
-NOTE = "echonet: note: "
 NONE = "filed 0 known 0 notecho 0 badtag 0 noarea 0 notlinked 0"
 # What ends a toss at a packet, after the messages before were written.
 OWN_FAULT = re.compile(r"echonet: (?:P[1-5] [A-Za-z0-9]+ at [0-9]+|C1 .*)")

@@ -1,6 +1,7 @@
 """A command of the program, and its help."""
 from __future__ import annotations
 
+import textwrap
 from typing import NamedTuple
 
 ALL_STATUSES = (
@@ -14,6 +15,7 @@ WITHOUT_HAND = (ALL_STATUSES[0], *ALL_STATUSES[2:])
 HELP = ("-h, --help", "Print help")
 STATION = ("[STATION]", "The folder of the station; by default the folder in which you are")
 ANY = 1 << 20
+WIDTH = 100
 
 Pairs = tuple[tuple[str, str], ...]
 
@@ -36,10 +38,14 @@ class Word(NamedTuple):
     does_all: bool = False  # a folder of stations does it for each
     must_begin: bool = False  # without a folder it ends as a run that cannot begin, with 3
     makes_station: bool = False  # takes the path of the folder in place of a station
+    details: str = ""  # sentences behind the summary, in the help and in the manual page
 
     def help(self) -> str:
         """The text of --help."""
-        lines = [self.summary, "", ("Usage: echonet-station [STATION] %s %s" % (self.name, self.usage)).rstrip()]
+        lines = [self.summary, ""]
+        if self.details:
+            lines += [*textwrap.wrap(self.details, WIDTH), ""]
+        lines += [("Usage: echonet-station [STATION] %s %s" % (self.name, self.usage)).rstrip()]
         lines += ["", "Arguments:", *rows((STATION, *self.arguments))]
         lines += ["", "Options:", *rows((*(("    " + name, text) for name, text in self.options), HELP))]
         lines += ["", "Example:", "  echonet-station " + self.example]

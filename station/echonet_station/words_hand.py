@@ -19,6 +19,7 @@ BY_HAND = (
         0,
         ANY,
         REPAIR_STATUSES,
+        details="REPAIR.md has its lines.",
     ),
     Word(
         "retoss",
@@ -29,6 +30,8 @@ BY_HAND = (
         "two retoss 0000ff90.su0",
         0,
         ANY,
+        details="A file that the gate put aside is judged again; another one goes straight to the toss, because the gate removed its"
+        " password.",
     ),
     Word(
         "accept",
@@ -39,6 +42,8 @@ BY_HAND = (
         "two accept TEST",
         0,
         2,
+        details="It tosses the messages of the area in bad/. The link is the one that sends it; ADDRESS names it if several links do, or"
+        " if it is a stranger.",
     ),
     Word(
         "status",
@@ -47,6 +52,7 @@ BY_HAND = (
         options=(("--json", "Prints one object in JSON"), ("--page <FILE>", "Writes a page instead, HTML without script")),
         example="two status",
         does_all=True,
+        details="Its last lines, hand, say what needs one; the status is then 1.",
     ),
     Word(
         "stats",
@@ -55,6 +61,7 @@ BY_HAND = (
         options=(("--days <N>", "Of so many days; by default 30"), ("--json", "Prints one object in JSON")),
         example="two stats --days 7",
         does_all=True,
+        details="It counts by the log and the base; aside counts packets.",
     ),
     Word(
         "doctor",
@@ -66,17 +73,19 @@ BY_HAND = (
         0,
         1,
         does_all=True,
+        details="It prints good or BAD for each point, with advice.",
     ),
     Word(
         "purge",
         "Drops the texts of old messages that were scanned; the station still knows them",
         "[OPTIONS]",
         options=(
-            ("--older <DAYS>", "Only messages that arrived so many days ago, or earlier"),
+            ("--older <DAYS>", "Only messages that arrived so many days ago, or earlier; it has to be given"),
             ("--area <TAG>", "Only messages of this area; may come again"),
         ),
         example="two purge --older 90",
         does_all=True,
+        details="A message that an area of the file readers has still to get is kept, with all behind it.",
     ),
     Word(
         "new",
@@ -97,6 +106,8 @@ BY_HAND = (
         WITHOUT_HAND,
         module="making",
         makes_station=True,
+        details="It makes links, peers, an empty base and binkd.conf, prints a line for cron and a mail to the sysop of the uplink, and"
+        " never replaces a file.",
     ),
     Word("publish", "Prints the link file for others: without the points", example="two publish > to-send", statuses=WITHOUT_HAND),
     Word(

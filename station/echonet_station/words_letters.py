@@ -19,4 +19,5 @@ LETTER = Word(
     4,
     WITHOUT_HAND,
     has_free_words=True,
+    details="It makes a file of netmail/. The next scan sends it, however soon. The charset is as for post.",
 )

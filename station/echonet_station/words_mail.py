@@ -22,12 +22,15 @@ MAIL = (
         WITHOUT_HAND,
         has_free_words=True,
         must_begin=True,
+        details="With a byte above 7F it gets a CHRS line, and is written in the charset CHARSET of the file settings, else in that of"
+        " --charset, unless the body has a CHRS line. While the base has fewer messages than at an earlier scan, nothing is posted:"
+        " repair it first.",
     ),
     Word(
         "read",
         "Lets a reader such as GoldED read and write areas",
         "[OPTIONS] <WORDS>...",
-        (("<WORDS>...", "A file with a line for each area; or an area, and its folder or JAM base"),),
+        (("<WORDS>...", "A file with a line TAG KIND PATH for each area; or an area, and its folder or JAM base"),),
         (
             ("--jam", "In a JAM base, not in a folder of stored messages"),
             ("--unlocked", "Without the lock of JAM programs: none may run meanwhile"),
@@ -37,5 +40,6 @@ MAIL = (
         1,
         2,
         must_begin=True,
+        details="KIND is msg or jam. READING.md has more.",
     ),
 )

@@ -2,10 +2,11 @@
 from __future__ import annotations
 
 import re
-from functools import total_ordering
+from functools import lru_cache, total_ordering
 from typing import Optional
 
 GREATEST = 32767
+MOST_KEPT = 1 << 14
 FORM = re.compile(r"([0-9]{1,9}):([0-9]{1,9})/([0-9]{1,9})(?:\.([0-9]{1,9}))?")
 
 
@@ -51,6 +52,7 @@ class Address:
         return self.net, self.node
 
 
+@lru_cache(maxsize=MOST_KEPT)  # a link file names each link in many areas
 def address_of(word: str, may_be_point: bool = False) -> Optional[Address]:
     """The address that a word is, or nothing."""
     found = FORM.fullmatch(word)

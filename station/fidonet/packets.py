@@ -6,6 +6,7 @@ import mmap
 import os
 import struct
 import time
+import zlib
 from dataclasses import dataclass
 from types import TracebackType
 from typing import Iterable, Iterator, Optional, Type, Union
@@ -21,8 +22,8 @@ DATE_AT = 14  # of a message
 FIELDS_AT = 34  # of a message: the names begin here, after numbers and DateTime
 PASSWORD = slice(26, 34)
 END = b"\0\0"
-PIECE = 1 << 20
-KEPT_IN_MEMORY = 4 << 20
+PIECE = 1 << 16
+KEPT_IN_MEMORY = 1 << 20
 ANY_NET = 65535  # the net of a point's header by FSC-0048
 PLUS_BIT = 1
 
@@ -161,8 +162,31 @@ class Packet:
         return count
 
     def reread(self) -> None:
-        """The next reading begins at the front."""
+        """The next reading begins at the front. What an earlier one left in memory leaves it."""
+        if isinstance(self.memory, mmap.mmap):
+            self.memory.madvise(mmap.MADV_DONTNEED)
         self.begin = 0
+
+    def contains(self, word: bytes) -> bool:
+        """Whether it has these bytes anywhere."""
+        self.reread()
+        for place in range(0, self.size, PIECE):
+            if self.memory.find(word, place, place + PIECE + len(word) - 1) >= 0:
+                return True
+            self.forget(place)
+        return False
+
+    def whole(self) -> Iterator[bytes]:
+        """All bytes, some at a time."""
+        self.reread()
+        yield from self.pieces(0, self.size)
+
+    def checksum(self) -> int:
+        """The CRC-32 of all bytes."""
+        checksum = 0
+        for piece in self.whole():
+            checksum = zlib.crc32(piece, checksum)
+        return checksum
 
     def pieces(self, start: int, end: int) -> Iterator[bytes]:
         """The bytes from a place to another, some at a time."""

@@ -49,10 +49,10 @@ SLIPS = (
     Slip(
         "a reason comes after its packet",
         "toss.py",
-        "        self.disk.write(join(folder, name + \".why\"), os.fsencode(\"\\n\".join([reason, *more, \"\"])))\n"
+        "        self.disk.write(join(folder, name + \".why\"), (os.fsencode(line + \"\\n\") for line in (reason, *more)))\n"
         "        self.disk.sync(folder)\n",
         "        self.disk.rename(packet, join(folder, name))\n"
-        "        self.disk.write(join(folder, name + \".why\"), os.fsencode(\"\\n\".join([reason, *more, \"\"])))\n"
+        "        self.disk.write(join(folder, name + \".why\"), (os.fsencode(line + \"\\n\") for line in (reason, *more)))\n"
         "        self.disk.rename(join(folder, name), packet)\n",
         "test_stops_run.Tossing.test_each_place",
     ),

@@ -278,7 +278,10 @@ class New(Handwork):
             self.assertEqual(self.say("new", *words)[0], 4, word)
         self.assertEqual(self.say("new", *self.words[:5])[0], 4)
         self.assertEqual(self.say("new", *self.words[:5], "A\nAREA")[0], 4)
-        self.assertEqual(self.say("new", *self.words[:5], "x" * 61)[0], 2)
+        status, lines = self.say("new", *self.words[:5], "x" * 61)
+        self.assertEqual((status, len(lines)), (2, 2))
+        self.assertTrue(lines[0].startswith("echonet-station: links:3: L7 BadTag 'XX"), lines)
+        self.assertTrue(lines[1].startswith("echonet: note: links:3: bad tag 'XX"), lines)
         self.assertEqual(self.names(), [])
 
 
@@ -313,6 +316,16 @@ class Doctor(Handwork):
         self.assertIn("BAD  peers: peers:1: K3 BadAddress", self.say("doctor")[1])
         os.unlink(self.at("peers"))
         self.assertEqual(self.say("doctor")[0], 1)
+
+    def test_a_faulty_link_file(self):
+        """The note names the file and the line, and says what is expected."""
+        self.put("links", b"SYSTEM 2:5020/100\nAREA TEST x\n")
+        path = self.at("links")
+        wanted = ["BAD  link file: %s:2: L2 BadAddress 'x'" % path, "echonet: note: %s:2: bad address 'x', expected zone:net/node" % path]
+        self.assertEqual(self.say("doctor")[1][:2], wanted)
+        os.unlink(path)
+        wanted = ["BAD  link file: echonet: cannot use %s" % path, "echonet: note: %s: no such file" % path]
+        self.assertEqual(self.say("doctor")[1][:2], wanted)
 
 
 class Publish(Handwork):

@@ -12,6 +12,7 @@ MEGABYTE = 1 << 20
 MESSAGES = 60000
 SLOW = 4
 PACKET_SIZE = 37 * MEGABYTE
+MOST_OF_RUN = 40 * MEGABYTE
 
 
 # Runs a command in a process that is small itself, since a child begins with the memory of its parent.
@@ -76,14 +77,23 @@ class Limits(build.StationCase):
     def test_large_bundle(self):
         content = self.large_packet()
         self.put("inbound/0000ff90.su0", build.zipped(("x.pkt", content), method=zipfile.ZIP_DEFLATED))
-        self.gate_within(3, 64 * MEGABYTE)
+        self.gate_within(3, MOST_OF_RUN)
         self.assertEqual(self.content("tossing", "00000001.pkt"), header() + content[58:])
 
     def test_large_packet(self):
         content = self.large_packet()
         self.put("inbound/a.pkt", content)
-        self.gate_within(3, 64 * MEGABYTE)
+        self.gate_within(3, MOST_OF_RUN)
         self.assertEqual(self.content("tossing", "00000001.pkt"), header() + content[58:])
+
+    def test_large_packet_that_goes(self):
+        """A point is taken out of its SEEN-BY lines, and the password of its link is put in."""
+        content = self.large_packet()
+        self.put("peers", b"PEER 2:5020/200 PASSWORD word\n" + self.peers.encode())
+        self.put("scanned/2.5020.200.5.pkt", content.replace(b"SEEN-BY: 5020/1 100", b"SEEN-BY: 5020/1 100 31000/7"))
+        ran = measured(build.sys.executable, build.TOOL, self.top, "dress")
+        self.assertEqual((ran.status, self.content("scanned", "2.5020.200.5.pkt")[58:]), (0, content[58:]))
+        self.assertLess(ran.memory, MOST_OF_RUN)
 
     def test_large_packet_with_letters(self):
         text = message(b"hello\r" * 100)

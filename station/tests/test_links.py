@@ -10,6 +10,8 @@ import build
 from build import echomail, header
 from echonet_station import link_file, linking, subscriptions
 from echonet_station.calls import Called
+from echonet_station.faults import Stopped
+from echonet_station.judging_links import faults_of
 from echonet_station.station import Station
 from stopping import Stop, StoppingDisk, copy_state, put_state
 from test_hand import Handwork
@@ -17,6 +19,7 @@ from test_stops import Stopping
 
 HUB = b"; mine\r\nSYSTEM 2:5020/100\r\nNAME Hub\nAREA TEST  2:5020/1 2:31000/7\r\n\tAREA\tother 2:5020/1\nAREA LAST"
 LINE = "echonet-station: "
+NOTE = "echonet: note: "
 
 
 class Links(Handwork):
@@ -106,7 +109,8 @@ class Subscribe(Links):
         self.put("links", text)
         status, lines = self.say("subscribe", "2:5020/200", "TEST")
         self.assertEqual((status, self.content("links")), (2, text))
-        self.assertIn("L6 RepeatedLink", lines[-1])
+        wanted = [LINE + "%s:7: L6 RepeatedLink '2:5020/1'", NOTE + "%s:7: second link '2:5020/1', one is allowed"]
+        self.assertEqual(lines[-2:], [line % self.at("links") for line in wanted])
         self.assertNotIn("links.new", self.names())
 
     def test_tags_that_none_can_be(self):
@@ -170,6 +174,15 @@ class Judged(Links):
         status, lines = self.say("subscribe", "2:5020/200", "TEST")
         self.assertEqual((status, lines[0]), (1, r"left out net/odd \x01: L2 BadAddress line 2"))
         self.assertIn("would loop: ", lines[1])
+        self.assertEqual(lines[2:], [NOTE + r"net/odd \x01:2: bad address 'x', expected zone:net/node"])
+
+    def test_a_fault_of_the_judging_comes_with_its_note(self):
+        with self.assertRaises(Stopped) as found:
+            faults_of([b"SYSTEM 1:10/1\nAREA T 1:10/2\n", b"SYSTEM 1:10/2\nAREA T x\n"])
+        line, note = str(found.exception).split("\n")
+        self.assertEqual(line, "echonet: L2 BadAddress line 2")
+        self.assertRegex(note, NOTE + r"/.*/1:2: bad address 'x', expected zone:net/node")
+        self.assertEqual(faults_of([b"SYSTEM 1:10/1\nAREA T 1:10/2\n", b"SYSTEM 1:10/2\nAREA T\n"]), {"T": ["V5 OneSided 1:10/1 1:10/2"]})
 
     def test_mail_that_was_seen(self):
         """The ways of mail close a ring of which no file is at hand."""

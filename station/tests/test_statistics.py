@@ -84,6 +84,17 @@ class Stats(Counted):
         self.assertEqual(len([name for name in self.rows("--days", "100") if name.startswith("day")]), 6)
         self.assertEqual(self.say("stats", "--days", "x")[0], 4)
 
+    def test_a_long_log_is_read_from_its_end(self):
+        """A clock was wrong for some lines."""
+        line = "%s came x.pkt from 2:5020/1 filed %d known 0 notecho 0 badtag 0 noarea 0 notlinked 0\n"
+        old = "".join(line % (stamp(21 + number / 1000), 100) for number in range(15000, 0, -1))
+        before, after = (("".join(line % (stamp(day + number / 2000), 1) for number in range(6000, 0, -1))) for day in (10, 1))
+        wrong = line % ("2000-01-01T00:00:00Z", 1000) * 4500  # less than a piece, and the second piece from the end begins in them
+        self.put("log", (old + before + wrong + after).encode())
+        self.put("log.1", (line % (stamp(2), 1)).encode())  # older than what was left out, whatever it says
+        self.assertEqual(self.rows("--days", "20")["link 2:5020/1"]["came"], 12000)
+        self.assertEqual(self.rows("--days", "5")["link 2:5020/1"]["came"], 6000)
+
     def test_arrivals_by_days(self):
         self.come(echomail(1), echomail(2))
         self.put("days", b"%d 1\n%d 2\n" % (NOW - 40 * 86400, NOW - 86400))

@@ -1,6 +1,8 @@
 """Command lines, help and statuses."""
 import os
 import re
+import subprocess
+import tempfile
 import unittest
 
 import build
@@ -45,7 +47,9 @@ class Manual(unittest.TestCase):
     """The manual page says what the help says."""
 
     def setUp(self) -> None:
-        page = build.content(os.path.join(build.STATION, "..", "docs", "echonet-station.1")).decode()
+        with tempfile.TemporaryDirectory() as place:
+            subprocess.run([os.path.join(build.STATION, "..", "scripts", "manual_pages.py"), place], check=True)
+            page = build.content(os.path.join(place, "echonet-station.1")).decode()
         self.page = re.sub(r"\\f[A-Z]", "", page.replace("\\-", "-"))
 
     def test_words(self):

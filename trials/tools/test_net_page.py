@@ -230,7 +230,9 @@ class Safety(Case):
         """What check refuses is reported, and no page is written."""
         bad = self.net(bad="SYSTEM 10/1\n")[0]
         ended = fixtures.run("net-page", self.page, bad)
-        self.assertEqual((ended.status, ended.fault.splitlines()[0]), (2, "net-page: echonet: L2 BadAddress line 1"))
+        wanted = ["net-page: echonet: L2 BadAddress line 1", "%s:1: L2 BadAddress '10/1'" % bad]
+        wanted += ["echonet: note: %s:1: bad address '10/1', expected zone:net/node" % bad]
+        self.assertEqual((ended.status, ended.fault.splitlines()), (2, wanted))
         self.assertEqual(fixtures.run("net-page", self.page, os.path.join(self.place, "missing")).status, 3)
         for words in ((), (self.page,), ("--other", self.page, bad), ("--title",)):
             self.assertEqual(fixtures.run("net-page", *words).status, 2)

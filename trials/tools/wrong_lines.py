@@ -69,8 +69,7 @@ LINKS_SEEN = [
     ("jam.py", "        for found in versions(numbers):", "        for found in []:"),
     ("sources.py", "    names = re.compile(r\".*\\.pkt\", re.IGNORECASE | re.DOTALL)", "    names = re.compile(r\".*\\.pkt\")"),
     ("sources.py", "    names = re.compile(r\"[0-9]+\\.msg\", re.IGNORECASE | re.ASCII)", "    names = re.compile(r\".*\\.msg\", re.IGNORECASE)"),
-    ("sources.py", "            if not end or content[at:at + 2] != b\"\\2\\0\":\n                self.damage[\"damaged files\"] += 1",
-     "            if not end or content[at:at + 2] != b\"\\2\\0\":"),
+    ("sources.py", "            if fields is None:\n                self.damage[\"damaged files\"] += 1", "            if fields is None:"),
 ]
 
 NET_PAGE = [

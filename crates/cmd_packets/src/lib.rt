@@ -12,5 +12,5 @@ mod streams;
 pub use expecting::expected_keys;
 pub use left_files::LeftFiles;
 pub use outbound_note::note_outbound;
-pub use scan_files::ScanFiles;
+pub use scan_files::{ScanEnd, ScanFiles};
 pub use streams::{PacketInput, PacketStreams, Tossing};

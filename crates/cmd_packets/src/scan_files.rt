@@ -15,6 +15,12 @@ use std::rt::Files;
 /// The end of a packet's path.
 const PACKET: &str = ".pkt";
 
+/// How a scan ended.
+pub trait ScanEnd {
+    // The base is as before the scan, so no message in a packet that it staged counts as scanned.
+    ghost is_undone: { Self → Type 0 };
+}
+
 /// The files of the system, for a scan of this base file into this folder. The folder's path ends in a slash.
 #[derive(Drop)]
 pub struct ScanFiles<'p, 'r> {
@@ -25,7 +31,7 @@ pub struct ScanFiles<'p, 'r> {
     progress: &'p Progress<'r>,
     packets: Cell<usize>,
     written: Cell<usize>,
-    // The staging files of packets, until the base will be replaced.
+    // The staging files of packets.
     made: Cell<Option<Vec<String>>>,
     // Where the first call failed, and the packet's path that another file has.
     failed: Cell<Option<String>>,
@@ -62,10 +68,16 @@ impl<'p, 'r> ScanFiles<'p, 'r> {
         }
     }
 
-    /// Removes the staging file of the base, unless it replaced the base file. If it was not about to, the scan was
-    /// not committed, and the staging files of packets go too.
+    /// Removes the staging file of the base, unless it replaced the base file.
     pub fn tidy(&self) {
         self.bases.tidy();
+    }
+
+    /// Removes the staging files of packets, after a scan that left the base as it was. Otherwise they may be the only
+    /// copies of scanned messages, and stay until the next scan.
+    pub fn remove_made<E: ScanEnd>(&self, _end: &E)
+        requires { E.is_undone _end.now }
+    {
         if let Some(made) = self.made.take() {
             for path in &made {
                 let _ = self.rt.remove_file(path.as_str());
@@ -246,7 +258,6 @@ impl Files for ScanFiles<'_, '_> {
     }
 
     fn rename(&self, from: &str, to: &str) -> io::Result<()> {
-        self.made.set(None);
         self.note(to, self.bases.rename(from, to))
     }
 

@@ -1,7 +1,7 @@
 -- The ids of messages, and their printed words.
 use Rattle.std.specs.Prelude.{◌≡◌, ℕ, ◌+◌, ◌-◌, ◌*◌, ◌%◌, ◌==◌, ◌&&◌, not, nat_le, nat_lt, Bool, true, List, [], ◌∷◌, length, slice_index, if◌then◌else◌, bytes_eq, Option, Some, None}
 use Rattle.std.specs.List.{cons_option, list_all}
-use Rattle.{echo_addr.specs.Entries.is_blank, echo_charset.specs.Escaped.escaped}
+use Rattle.{echo_addr.specs.Entries.is_blank, echo_charset.specs.Escaped.escaped, cmd_repair.specs.declared.words.Escape.{Escape, TheVariants.{Outside, Backslash, Prefix, Digit}}}
 
 -- A byte of a line in the text of a message.
 abbrev pub is_text_byte : ℕ → Bool
@@ -14,32 +14,30 @@ is_id id = nat_lt 0 (length id) && (list_all is_text_byte id && (not (is_blank (
 abbrev pub IsId : List ℕ → Type 0
 IsId id = is_id id ≡ true
 
--- How far an escaped byte was read: 0 at its front, 1 behind a backslash, 2 behind `\x`, 16 and more behind its first digit.
-abbrev pub digit : ℕ → ℕ
-digit b = (if nat_le b 57 then b - 48 else b - 87) % 16
+-- The value of a hex digit in small letters.
+abbrev pub hex_digit : ℕ → ℕ
+hex_digit b = (if nat_le b 57 then b - 48 else b - 87) % 16
 
-abbrev pub next_state : ℕ → ℕ → ℕ
-next_state s b =
-    if s == 0 then (if b == 92 then 1 else 0)
-    else if s == 1 then (if b == 120 then 2 else 0)
-    else if s == 2 then 16 + digit b
-    else 0
+abbrev pub next_escape : Escape → ℕ → Escape
+next_escape Outside b = if b == 92 then Backslash else Outside
+next_escape Backslash b = if b == 120 then Prefix else Outside
+next_escape Prefix b = Digit (hex_digit b)
+next_escape (Digit d) b = Outside
 
 -- The byte that ends there.
-abbrev pub byte_at : ℕ → ℕ → Option ℕ
-byte_at s b =
-    if s == 0 then (if b == 92 then None else Some b)
-    else if s == 1 then (if b == 120 then None else Some b)
-    else if s == 2 then None
-    else Some (s % 16 * 16 + digit b)
+abbrev pub ended_byte : Escape → ℕ → Option ℕ
+ended_byte Outside b = if b == 92 then None else Some b
+ended_byte Backslash b = if b == 120 then None else Some b
+ended_byte Prefix b = None
+ended_byte (Digit d) b = Some (d % 16 * 16 + hex_digit b)
 
-abbrev pub unescaped : ℕ → List ℕ → List ℕ
+abbrev pub unescaped : Escape → List ℕ → List ℕ
 unescaped s [] = []
-unescaped s (b ∷ word) = cons_option (byte_at s b) (unescaped (next_state s b) word)
+unescaped s (b ∷ word) = cons_option (ended_byte s b) (unescaped (next_escape s b) word)
 
 -- The word is the escaped form of an id.
 abbrev pub is_id_word : List ℕ → Bool
-is_id_word word = is_id (unescaped 0 word) && bytes_eq (escaped (unescaped 0 word)) word
+is_id_word word = is_id (unescaped Outside word) && bytes_eq (escaped (unescaped Outside word)) word
 
 pub record IsWordOfId (word : List ℕ) : Type 0 where
   pub id : List ℕ

@@ -3,6 +3,7 @@ ghost use Rattle.std.specs.{Prelude.{◌≡◌, ◌++◌, ◌≤◌, [], IfOk, L
 ghost use Rattle.echo_charset.specs.Escaped.{escaped, escaped_line};
 ghost use Rattle.cmd_repair.specs.Ids as ids;
 ghost use Rattle.cmd_repair.specs.Words as words;
+ghost use Rattle.cmd_repair.specs.declared.words.Escape.TheVariants.{Outside};
 
 use echo_addr::is_blank;
 use echo_charset::{push_escaped, push_word, written};
@@ -11,6 +12,18 @@ use std::io::Write;
 
 /// The most messages of a base.
 const MOST_MESSAGES: u64 = 4_294_967_295;
+
+/// How far an escaped byte was read: a backslash, an `x` and two digits.
+#[derive(Clone, Copy, Debug, PartialEq, Eq)]
+enum Escape {
+    /// None is begun.
+    Outside,
+    Backslash,
+    /// Behind the `x`.
+    Prefix,
+    /// Behind the first digit, which it holds.
+    Digit(u8),
+}
 
 pub(crate) fn push_area(line: &mut Vec<u8>, area: &[u8]) -> Result<(), AllocError>
     ensures { OnOk result (line.new.items ≡ line.old.items ++ words.area_words area.now) }
@@ -106,13 +119,13 @@ fn is_id_word(alloc: Global, word: &[u8]) -> Result<bool, AllocError>
 }
 
 fn unescape(alloc: Global, word: &[u8]) -> Result<Vec<u8>, AllocError>
-    ensures { IfOk result (λ id. id.items ≡ ids.unescaped 0 word.now) }
+    ensures { IfOk result (λ id. id.items ≡ ids.unescaped Outside word.now) }
 {
     let mut id = Vec::with_capacity(alloc, word.len())?;
-    let mut state = 0;
+    let mut escape = Escape::Outside;
     'bytes: for byte in word {
-        push_ended(&mut id, byte_at(state, *byte))?;
-        state = next_state(state, *byte);
+        push_ended(&mut id, ended_byte(escape, *byte))?;
+        escape = next_escape(escape, *byte);
     }
     Ok(id)
 }
@@ -126,32 +139,33 @@ fn push_ended(id: &mut Vec<u8>, ended: Option<u8>) -> Result<(), AllocError>
     }
 }
 
-fn digit(byte: u8) -> u8
-    ensures { result ≡ ids.digit byte }
+fn hex_digit(byte: u8) -> u8
+    ensures { result ≡ ids.hex_digit byte }
 {
     byte.saturating_sub(if byte <= b'9' { b'0' } else { b'a' - 10 }) % 16
 }
 
-fn next_state(state: u8, byte: u8) -> u8
-    ensures { result ≡ ids.next_state state byte }
+fn next_escape(escape: Escape, byte: u8) -> Escape
+    ensures { result ≡ ids.next_escape escape byte }
 {
-    match state {
-        0 if byte == b'\\' => 1,
-        1 if byte == b'x' => 2,
-        2 => 16 + digit(byte),
-        _ => 0,
+    match escape {
+        Escape::Outside if byte == b'\\' => Escape::Backslash,
+        Escape::Backslash if byte == b'x' => Escape::Prefix,
+        Escape::Prefix => Escape::Digit(hex_digit(byte)),
+        _ => Escape::Outside,
     }
 }
 
-fn byte_at(state: u8, byte: u8) -> Option<u8>
-    ensures { result ≡ ids.byte_at state byte }
+/// The byte that ends there.
+fn ended_byte(escape: Escape, byte: u8) -> Option<u8>
+    ensures { result ≡ ids.ended_byte escape byte }
 {
-    match state {
-        0 if byte == b'\\' => None,
-        1 if byte == b'x' => None,
-        0..=1 => Some(byte),
-        2 => None,
-        _ => Some(state % 16 * 16 + digit(byte)),
+    match escape {
+        Escape::Outside if byte == b'\\' => None,
+        Escape::Backslash if byte == b'x' => None,
+        Escape::Outside | Escape::Backslash => Some(byte),
+        Escape::Prefix => None,
+        Escape::Digit(digit) => Some(digit % 16 * 16 + hex_digit(byte)),
     }
 }
 

@@ -1,6 +1,6 @@
 //! `scan` by its words, on the files of the system. The contract of `run_scan` in `station_scan` says what it reads and
 //! writes on any disk.
-ghost use Rattle.{disk_io.specs.Disk.Honestly, station.specs.Opening.AreFree};
+ghost use Rattle.{disk_io.specs.Disk.Honestly, station.specs.Opening.AreFree, cmd_station.specs.Scans.IsStaying};
 
 use crate::opened::Opened;
 use crate::place::{Station, find_base, station_locks};
@@ -8,7 +8,7 @@ use crate::running::{fault_of, file_station, folder_station};
 use crate::unplaced::report_unplaced;
 use base_store::StoreError;
 use cmd_input::{Progress, folder_path, named_stamp};
-use cmd_packets::{LeftFiles, ScanFiles};
+use cmd_packets::{LeftFiles, ScanEnd, ScanFiles};
 use cmd_status::{Fault, FileLock, MessageProgress, Status};
 use cmd_store::CommandError;
 use cmd_words::{Place, ScanWords};
@@ -126,11 +126,30 @@ fn scan_over_files<'a, L: FileLock, K: FileLock, W: Sink, E: Sink>(
         Some(found) => scan_folder(scan, progress, files, locks, found, out),
         None => {
             let done = scan_file(scan, progress, files, locks, out);
-            files.tidy();
+            tidy(files, &done);
             done
         }
     };
     report_scanned(scan, files, done, errors)
+}
+
+// Removes what a scan of a base file left. Packets go only if the scan says that the base is as before: what a failed
+// commit leaves, the next scan removes.
+fn tidy(files: &ScanFiles<'_, '_>, done: &Result<(), ScanError<'_>>) {
+    files.tidy();
+    if let Err(ScanError::Staying(_)) = done {
+        files.remove_made(&Undone { done });
+    }
+}
+
+// The end of a scan, which may have left the base as it was.
+#[derive(Clone, Copy)]
+struct Undone<'e, 'a> {
+    done: &'e Result<(), ScanError<'a>>,
+}
+
+impl ScanEnd for Undone<'_, '_> {
+    ghost is_undone = { λ end. IsStaying end.done.now };
 }
 
 // Scans a station with a base file, over these files.

@@ -1,36 +1,19 @@
-//! Calls of a tosser that are refused: each leaves the system as it was.
-use crate::steps::{ONE_FILED, STAMP, draft, holds, post, scanned, system, toss};
-use echo_addr::{Address, Trial, Watched};
-use echo_packet::{Limits, PacketFault};
-use echo_toss::{PostFault, ScanFault, Stamp, Tally, TossCause, TossFault, Tosser};
+//! Calls of a tosser that are refused, which leave the system as it was; and what becomes of texts.
+use crate::steps::{HELLO, ONE_FILED, Posting, SECOND, STAMP, Sample, Step, first_wrong};
+use echo_addr::Address;
+use echo_packet::PacketFault;
+use echo_toss::{Outcome, PostFault, Stamp, Tally, TossCause, TossFault};
 use std::alloc::Global;
-use std::hash::BuildHasher;
 use std::test::Fail;
-use test_formats::samples::{ALPHA, BETA, EMPTY, FIRST, POSTED, changed, joined};
+use test_formats::samples::{ALPHA, BETA, EMPTY, POSTED};
 
-/// What the first posting is changed to.
-#[derive(Drop)]
-struct Posting {
-    tag: &'static [u8],
-    to: &'static [u8],
-    subject: &'static [u8],
-    reply: &'static [u8],
-    body: &'static [u8],
-    year: u16,
-    month: u16,
-    day: u16,
-}
+const MONTH_13: Stamp = Stamp { month: 13, ..STAMP };
 
-/// To nothing else.
-const SAME: Posting = Posting {
-    tag: b"TEST",
-    to: b"All",
-    subject: b"Hi",
-    reply: b"",
-    body: b"Hello",
-    year: 2026,
-    month: 7,
-    day: 3,
+/// A day that no calendar has.
+const FEBRUARY_31: Stamp = Stamp {
+    month: 2,
+    day: 31,
+    ..STAMP
 };
 
 /// 36 bytes, one more than a name may have.
@@ -41,307 +24,328 @@ const LONG_SUBJECT: &[u8] =
     b"123456789012345678901234567890123456789012345678901234567890123456789012";
 
 /// Postings, and what they are answered: the first fault that applies.
-const POSTINGS: &[(Posting, Option<PostFault>)] = &[
-    (SAME, None),
+const POSTINGS: &[(Posting, Result<(), PostFault>)] = &[
+    (HELLO, Ok(())),
     (
         Posting {
             tag: b"test",
-            ..SAME
+            ..HELLO
         },
-        None,
+        Ok(()),
     ),
     (
         Posting {
             tag: b"NONE",
             body: b"\0",
-            ..SAME
+            ..HELLO
         },
-        Some(PostFault::NoArea),
+        Err(PostFault::NoArea),
     ),
     (
         Posting {
             subject: b"\0",
-            month: 13,
-            ..SAME
+            stamp: MONTH_13,
+            ..HELLO
         },
-        Some(PostFault::ByteZero),
+        Err(PostFault::ByteZero),
     ),
     (
         Posting {
             to: LONG_NAME,
-            month: 13,
-            ..SAME
+            stamp: MONTH_13,
+            ..HELLO
         },
-        Some(PostFault::FieldTooLong),
+        Err(PostFault::FieldTooLong),
     ),
     (
         Posting {
             subject: LONG_SUBJECT,
-            ..SAME
+            ..HELLO
         },
-        Some(PostFault::FieldTooLong),
+        Err(PostFault::FieldTooLong),
     ),
     (
         Posting {
             reply: b"x",
-            month: 13,
-            ..SAME
+            stamp: MONTH_13,
+            ..HELLO
         },
-        Some(PostFault::BadStamp),
+        Err(PostFault::BadStamp),
     ),
-    (Posting { year: 2080, ..SAME }, Some(PostFault::BadStamp)),
     (
         Posting {
-            month: 2,
-            day: 31,
-            ..SAME
+            stamp: Stamp {
+                year: 2080,
+                ..STAMP
+            },
+            ..HELLO
         },
-        None,
+        Err(PostFault::BadStamp),
+    ),
+    (
+        Posting {
+            stamp: FEBRUARY_31,
+            ..HELLO
+        },
+        Ok(()),
     ),
     (
         Posting {
             reply: b"x",
-            ..SAME
+            ..HELLO
         },
-        Some(PostFault::BadReply),
+        Err(PostFault::BadReply),
     ),
     (
         Posting {
             reply: b" 1:10/9 00000009 ",
-            ..SAME
+            ..HELLO
         },
-        None,
+        Ok(()),
     ),
 ];
 
-fn answer<S: BuildHasher>(
+/// The first step that is answered otherwise: the posting, or what it leaves.
+fn wrong_of_posting(
     alloc: Global,
-    at: &mut Tosser<S>,
-    posting: &Posting,
-) -> Result<(), PostFault> {
-    let draft = draft(
-        alloc,
-        posting.to,
-        posting.subject,
-        posting.reply,
-        posting.body,
-    )?;
-    let stamp = Stamp {
-        year: posting.year,
-        month: posting.month,
-        day: posting.day,
-        ..STAMP
+    posting: Posting,
+    wanted: Result<(), PostFault>,
+) -> Result<usize, Fail> {
+    let left = if wanted.is_ok() {
+        Step::Counts(1, 1)
+    } else {
+        Step::Base(EMPTY)
     };
-    at.post(posting.tag, &draft, 1, stamp)
-}
-
-/// Whether the posting is answered so, and files nothing if it is refused.
-fn is_answered<S: BuildHasher>(
-    alloc: Global,
-    at: &mut Tosser<S>,
-    posting: &Posting,
-    wanted: Option<PostFault>,
-) -> bool {
-    match answer(alloc, at, posting) {
-        Ok(()) => wanted.is_none() && (at.filed(), at.waiting()) == (1, 1),
-        Err(fault) => wanted == Some(fault) && holds(alloc, at, EMPTY),
-    }
+    first_wrong(alloc, ALPHA, EMPTY, &[Step::Post(posting, wanted), left])
 }
 
 #[test]
 fn postings(rt: HostRuntime) -> Result<(), Fail> {
     for (i, (posting, wanted)) in POSTINGS.iter().enumerate() {
-        let mut alpha = system(rt.alloc(), ALPHA)?;
-        assert!(rt;
-            is_answered(rt.alloc(), &mut alpha, posting, *wanted),
-            "row {i}"
-        );
+        let wrong = wrong_of_posting(rt.alloc(), *posting, *wanted)?;
+        assert!(rt; wrong == 0, "row {i}, step {wrong}");
     }
     Ok(())
-}
-
-/// Whether the message has this tag, DateTime and reply.
-fn is_filed<S: BuildHasher>(at: &Tosser<S>, tag: &[u8], date: &[u8], reply: Option<&[u8]>) -> bool {
-    match at.message(0) {
-        Some(message) => {
-            let echo = &message.echo;
-            message.date.as_slice() == date && echo.tag.as_slice() == tag && echo.reply() == reply
-        }
-        None => false,
-    }
 }
 
 /// No calendar is asked, the tag gets capital letters, and a reply is filed without blanks.
+const FILED: &[Step] = &[
+    Step::Post(
+        Posting {
+            tag: b"test",
+            reply: b" 1:10/9 00000009 ",
+            stamp: FEBRUARY_31,
+            ..HELLO
+        },
+        Ok(()),
+    ),
+    Step::Filed(b"TEST", b"31 Feb 26  12:34:56\0", Some(b"1:10/9 00000009")),
+];
+
 #[test]
 fn filed_postings(rt: HostRuntime) -> Result<(), Fail> {
-    let mut alpha = system(rt.alloc(), ALPHA)?;
-    let posting = Posting {
-        tag: b"test",
-        reply: b" 1:10/9 00000009 ",
-        month: 2,
-        day: 31,
-        ..SAME
-    };
-    assert!(rt; is_answered(rt.alloc(), &mut alpha, &posting, None));
-    let reply = b"1:10/9 00000009".as_slice();
-    assert!(rt; is_filed(&alpha, b"TEST", b"31 Feb 26  12:34:56\0", Some(reply)));
+    assert_eq!(rt; first_wrong(rt.alloc(), ALPHA, EMPTY, FILED)?, 0);
     Ok(())
 }
 
-/// Stamps that are out of range, each in one part.
-const BAD_STAMPS: &[Stamp] = &[
-    Stamp {
+/// Scans at stamps that are out of range, each in one part. They leave the base as it was.
+const BAD_STAMPS: &[Step] = &[
+    Step::ScanAt(Stamp {
         year: 1979,
         ..STAMP
-    },
-    Stamp {
+    }),
+    Step::ScanAt(Stamp {
         year: 2080,
         ..STAMP
-    },
-    Stamp { month: 0, ..STAMP },
-    Stamp { month: 13, ..STAMP },
-    Stamp { day: 0, ..STAMP },
-    Stamp { day: 32, ..STAMP },
-    Stamp { hour: 24, ..STAMP },
-    Stamp {
+    }),
+    Step::ScanAt(Stamp { month: 0, ..STAMP }),
+    Step::ScanAt(Stamp { month: 13, ..STAMP }),
+    Step::ScanAt(Stamp { day: 0, ..STAMP }),
+    Step::ScanAt(Stamp { day: 32, ..STAMP }),
+    Step::ScanAt(Stamp { hour: 24, ..STAMP }),
+    Step::ScanAt(Stamp {
         minute: 60,
         ..STAMP
-    },
-    Stamp {
+    }),
+    Step::ScanAt(Stamp {
         second: 60,
         ..STAMP
-    },
+    }),
+    Step::Base(POSTED),
 ];
-
-fn scan_fault<S: BuildHasher>(at: &mut Tosser<S>, stamp: Stamp) -> Option<ScanFault> {
-    match at.scan(stamp) {
-        Ok(_) => None,
-        Err(fault) => Some(fault),
-    }
-}
 
 #[test]
 fn bad_stamps_of_scans(rt: HostRuntime) -> Result<(), Fail> {
-    let mut alpha = system(rt.alloc(), ALPHA)?;
-    post(rt.alloc(), &mut alpha, b"TEST", 1)?;
-    for (i, stamp) in BAD_STAMPS.iter().enumerate() {
-        let fault = scan_fault(&mut alpha, *stamp);
-        assert!(rt; fault == Some(ScanFault::BadStamp), "row {i}");
-    }
-    assert!(rt; holds(rt.alloc(), &alpha, POSTED));
+    assert_eq!(rt; first_wrong(rt.alloc(), ALPHA, POSTED, BAD_STAMPS)?, 0);
     Ok(())
 }
 
-const SECOND: Address = Address {
+/// The packet of two postings, of 364 bytes. Its second message begins at 210: there at 244 begins the toUserName, at 252
+/// the subject, at 255 the text.
+const TWO: Sample = Sample {
+    packet: b"\
+        \x01\0\x02\0\xea\x07\x06\0\x03\0\x0c\0\x22\0\x38\0\0\0\x02\0\
+        \x0a\0\x0a\0\0\0\
+        \0\0\0\0\0\0\0\0\
+        \x01\0\x01\0\
+        \0\0\0\0\0\0\0\0\0\0\0\0\0\0\0\0\0\0\0\0\
+        \x02\0\x01\0\x02\0\x0a\0\x0a\0\0\0\0\0\
+        03 Jul 26  12:34:56\0\
+        All\0Ann\0Hi\0\
+        AREA:TEST\r\
+        \x01MSGID: 1:10/1 00000001\r\
+        Hello\r\
+        --- echonet\r\
+        \x20* Origin: Alpha (1:10/1)\r\
+        SEEN-BY: 10/1 2\r\
+        \x01PATH: 10/1\r\
+        \0\
+        \x02\0\x01\0\x02\0\x0a\0\x0a\0\0\0\0\0\
+        03 Jul 26  12:34:56\0\
+        All\0Ann\0Hi\0\
+        AREA:TEST\r\
+        \x01MSGID: 1:10/1 00000002\r\
+        Hello\r\
+        --- echonet\r\
+        \x20* Origin: Alpha (1:10/1)\r\
+        SEEN-BY: 10/1 2\r\
+        \x01PATH: 10/1\r\
+        \0\
+        \0\0",
+    changes: &[],
+    size: 364,
+};
+
+const POST_TWO: &[Step] = &[
+    Step::Post(HELLO, Ok(())),
+    Step::Post(SECOND, Ok(())),
+    Step::Scan(TWO),
+];
+
+#[test]
+fn two_postings(rt: HostRuntime) -> Result<(), Fail> {
+    assert_eq!(rt; first_wrong(rt.alloc(), ALPHA, EMPTY, POST_TWO)?, 0);
+    Ok(())
+}
+
+/// Tosses of that packet that stop after its first message.
+const STOPPED: &[Step] = &[
+    Step::Stop(
+        TWO,
+        1,
+        usize::MAX,
+        ONE_FILED,
+        PacketFault::TooManyMessages { at: 210 },
+    ),
+    Step::Stop(
+        Sample { size: 300, ..TWO },
+        u64::MAX,
+        106,
+        ONE_FILED,
+        PacketFault::Truncated { at: 255 },
+    ),
+    Step::Stop(
+        Sample {
+            changes: &[(210, 3)],
+            ..TWO
+        },
+        u64::MAX,
+        106,
+        ONE_FILED,
+        PacketFault::NotMessage { at: 210 },
+    ),
+    Step::Stop(
+        Sample {
+            changes: &[(254, b'!')],
+            ..TWO
+        },
+        u64::MAX,
+        106,
+        ONE_FILED,
+        PacketFault::FieldTooLong { at: 252 },
+    ),
+    Step::Stop(
+        Sample {
+            changes: &[(361, b'!')],
+            ..TWO
+        },
+        u64::MAX,
+        106,
+        ONE_FILED,
+        PacketFault::TextTooLong { at: 255 },
+    ),
+    Step::Break(TWO, 210, ONE_FILED, PacketFault::Read { at: 210 }),
+    Step::Break(TWO, 300, ONE_FILED, PacketFault::Read { at: 255 }),
+];
+
+/// Of the whole packet after its first message was filed.
+const KNOWN_AND_FILED: Tally = Tally {
+    known: 1,
+    ..ONE_FILED
+};
+
+/// The first step that is answered otherwise: the toss, what it leaves, or that of the whole packet after it.
+fn wrong_of_stop(alloc: Global, stop: Step) -> Result<usize, Fail> {
+    let whole = Step::Toss(TWO, KNOWN_AND_FILED);
+    let steps = [stop, Step::Counts(1, 1), whole, Step::Counts(2, 2)];
+    first_wrong(alloc, BETA, EMPTY, &steps)
+}
+
+#[test]
+fn packets_that_stop(rt: HostRuntime) -> Result<(), Fail> {
+    for (i, stop) in STOPPED.iter().enumerate() {
+        let wrong = wrong_of_stop(rt.alloc(), *stop)?;
+        assert!(rt; wrong == 0, "row {i}, step {wrong}");
+    }
+    Ok(())
+}
+
+/// What becomes of texts that come one after another to the second system, each from the system of this node.
+const OUTCOMES: &[Step] = &[
+    Step::Message(
+        1,
+        b"AREA:TEST\r\x01MSGID: 1:10/1 00000001\rHi\r",
+        Outcome::Filed,
+    ),
+    Step::Message(
+        3,
+        b"AREA:TEST\r\x01MSGID: 1:10/1 00000001\rHo\r",
+        Outcome::Known,
+    ),
+    Step::Message(
+        1,
+        b"AREA:OTHER\r\x01MSGID: 1:10/1 00000001\rHi\r",
+        Outcome::Filed,
+    ),
+    Step::Message(1, b"AREA:TEST\rHello\r", Outcome::Filed),
+    Step::Message(1, b"AREA:TEST\rHello\r", Outcome::Known),
+    Step::Message(1, b"AREA:TEST\rHello\rHello\r", Outcome::Filed),
+    Step::Message(
+        3,
+        b"AREA:TEST\rHello\rHello\rSEEN-BY: 10/3\r",
+        Outcome::Known,
+    ),
+    Step::Message(4, b"AREA:TEST\rHello\r", Outcome::NotLinked),
+    Step::Message(4, b"AREA:NONE\rHello\r", Outcome::NoArea),
+    Step::Message(1, b"Hello", Outcome::NotEcho),
+    Step::Message(1, b"AREA:", Outcome::BadTag),
+    Step::Counts(4, 4),
+];
+
+#[test]
+fn outcomes(rt: HostRuntime) -> Result<(), Fail> {
+    assert_eq!(rt; first_wrong(rt.alloc(), BETA, EMPTY, OUTCOMES)?, 0);
+    Ok(())
+}
+
+const FOR_THE_SECOND: Address = Address {
     zone: 1,
     net: 10,
     node: 2,
 };
 
-/// The packet of two postings, of 364 bytes; its second message begins at 210.
-fn two_postings(alloc: Global) -> Result<Vec<u8>, Fail> {
-    let mut alpha = system(alloc, ALPHA)?;
-    post(alloc, &mut alpha, b"TEST", 1)?;
-    post(alloc, &mut alpha, b"TEST", 2)?;
-    Ok(scanned(alloc, &mut alpha)?)
-}
-
-/// The answer to a packet that stops after one message was filed.
-fn stopped(fault: PacketFault) -> Result<Tally, TossFault> {
-    Err(TossFault {
-        tally: ONE_FILED,
-        cause: TossCause::Packet(fault),
-    })
-}
-
-/// Whether the whole packet is then tossed, and the message that was filed is known.
-fn goes_on<S: BuildHasher>(at: &mut Tosser<S>, packet: &[u8]) -> bool {
-    let wanted = Tally {
-        known: 1,
-        ..ONE_FILED
-    };
-    at.filed() == 1 && toss(at, packet, Limits::NONE) == Ok(wanted) && at.filed() == 2
-}
-
-#[test]
-fn two_messages_and_a_limit(rt: HostRuntime) -> Result<(), Fail> {
-    let packet = two_postings(rt.alloc())?;
-    assert_eq!(rt; packet.len(), 364);
-    let mut beta = system(rt.alloc(), BETA)?;
-    let one = Limits {
-        text: usize::MAX,
-        messages: 1,
-    };
-    let wanted = stopped(PacketFault::TooManyMessages { at: 210 });
-    assert!(rt; toss(&mut beta, &packet, one) == wanted);
-    assert!(rt; goes_on(&mut beta, &packet));
-    Ok(())
-}
-
-/// Changes of the packet of two postings, how many bytes of it come, the limit of a text, and the fault after its first
-/// message. At 244 begins the second toUserName, at 252 its subject, at 255 its text.
-const STOPPED: &[(&[(usize, u8)], usize, usize, PacketFault)] = &[
-    (&[], 300, 106, PacketFault::Truncated { at: 255 }),
-    (&[(210, 3)], 364, 106, PacketFault::NotMessage { at: 210 }),
-    (
-        &[(254, b'!')],
-        364,
-        106,
-        PacketFault::FieldTooLong { at: 252 },
-    ),
-    (
-        &[(361, b'!')],
-        364,
-        106,
-        PacketFault::TextTooLong { at: 255 },
-    ),
-];
-
-#[test]
-fn packets_that_stop(rt: HostRuntime) -> Result<(), Fail> {
-    let whole = two_postings(rt.alloc())?;
-    for (i, (changes, size, text, fault)) in STOPPED.iter().enumerate() {
-        let mut packet = changed(rt.alloc(), &whole, changes)?;
-        packet.truncate(*size);
-        let mut beta = system(rt.alloc(), BETA)?;
-        let limits = Limits {
-            text: *text,
-            messages: u64::MAX,
-        };
-        assert!(rt;
-            toss(&mut beta, &packet, limits) == stopped(*fault),
-            "row {i}"
-        );
-        assert!(rt; goes_on(&mut beta, &whole), "row {i}");
-    }
-    Ok(())
-}
-
-#[test]
-fn failing_readers_of_toss(rt: HostRuntime) -> Result<(), Fail> {
-    let packet = two_postings(rt.alloc())?;
-    for (left, at) in [(210, 210), (300, 255)] {
-        let mut beta = system(rt.alloc(), BETA)?;
-        let mut reader = Watched::new(Trial::new(packet.as_slice(), 7, 1, left));
-        let found = beta.toss(&mut reader, Limits::NONE);
-        assert!(rt; found == stopped(PacketFault::Read { at }), "after {left}");
-        assert!(rt; goes_on(&mut beta, &packet), "after {left}");
-    }
-    Ok(())
-}
-
-#[test]
-fn bytes_after_a_packet(rt: HostRuntime) -> Result<(), Fail> {
-    let packets = joined(rt.alloc(), FIRST, b"after")?;
-    let mut beta = system(rt.alloc(), BETA)?;
-    let mut rest = packets.as_slice();
-    assert!(rt; beta.toss(&mut rest, Limits::NONE) == Ok(ONE_FILED));
-    assert!(rt; rest == b"after".as_slice());
-    Ok(())
-}
-
 const TEXTS: &[(TossCause, &str)] = &[
-    (TossCause::NotForUs(SECOND), "C1 NotForUs 1:10/2"),
+    (TossCause::NotForUs(FOR_THE_SECOND), "C1 NotForUs 1:10/2"),
     (TossCause::Memory, "C2 Memory"),
     (
         TossCause::Packet(PacketFault::Read { at: 210 }),

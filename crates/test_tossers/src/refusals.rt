@@ -1,12 +1,42 @@
-//! Calls of a tosser that are refused memory leave the system as it was, and answer when they are called again. Without
-//! a refusal each test shows that the call answers at once. `rt try --test --fail-alloc N` refuses the Nth growth.
-use crate::steps::{STAMP, System, holds, post, system, toss};
+//! A new system, and calls of a tosser that are refused memory. These leave the system as it was, and answer when they are
+//! called again. Without a refusal each test shows that the call answers at once. `rt try --test --fail-alloc N` refuses
+//! the Nth growth.
+use crate::steps::{HELLO, STAMP, System, address, holds, post, toss};
 use echo_packet::Limits;
-use echo_toss::{PostFault, ScanFault, Tally, TossCause, TossFault, Tosser};
+use echo_toss::{
+    LinkFault, LinkFile, PostFault, ReplyRule, ScanFault, Tally, TossCause, TossFault, Tosser,
+};
 use std::alloc::Global;
-use std::hash::BuildHasher;
+use std::hash::{BuildHasher, BuildHasherDefault};
 use std::test::Fail;
 use test_formats::samples::{ALPHA, BETA, EMPTY, FIRST, POSTED, PURGED};
+
+/// The system of the link file, which has filed nothing.
+fn system(alloc: Global, file: &[u8]) -> Result<System, LinkFault> {
+    let links = LinkFile::read(alloc, file)?;
+    Ok(Tosser::new(alloc, links, BuildHasherDefault::new()))
+}
+
+/// Whether the system was read from the link file of the first system.
+fn is_alpha(links: &LinkFile) -> bool {
+    links.system() == address(1)
+        && links.name() == b"Alpha".as_slice()
+        && links.areas() == 2
+        && links.area(0) == Some(b"TEST".as_slice())
+        && links.area(1) == Some(b"OTHER".as_slice())
+        && links.area(2).is_none()
+        && links.links(b"TEST") == Some([address(2)].as_slice())
+        && links.links(b"test").is_none()
+}
+
+#[test]
+fn new_system(rt: HostRuntime) -> Result<(), Fail> {
+    let alpha = system(rt.alloc(), ALPHA)?;
+    assert!(rt; is_alpha(alpha.links()));
+    assert_eq!(rt; (alpha.filed(), alpha.waiting()), (0, 0));
+    assert!(rt; alpha.message(0).is_none());
+    Ok(())
+}
 
 /// The system of the link file, also if the first attempt was refused memory.
 fn ready(alloc: Global, file: &[u8]) -> Result<System, Fail> {
@@ -23,12 +53,12 @@ fn holds_at_last<S: BuildHasher>(alloc: Global, at: &Tosser<S>, base: &[u8]) -> 
 
 /// Whether a posting that is refused files nothing, and a second one does.
 fn posts_again<S: BuildHasher>(alloc: Global, at: &mut Tosser<S>) -> bool {
-    let left = match post(alloc, at, b"TEST", 1) {
+    let left = match post(alloc, at, ReplyRule::EightDigits, &HELLO) {
         Ok(()) => true,
         Err(fault) => {
             fault == PostFault::Memory
                 && holds(alloc, at, EMPTY)
-                && post(alloc, at, b"TEST", 1) == Ok(())
+                && post(alloc, at, ReplyRule::EightDigits, &HELLO) == Ok(())
         }
     };
     left && holds_at_last(alloc, at, POSTED)

@@ -1,164 +1,10 @@
-//! Scripts: what a system answers to one step after another. One function lends the system to each step, so a row more
-//! costs no proof.
-use crate::steps::{ONE_FILED, STAMP, System, draft, holds, scanned, toss};
+//! Scripts: steps at one system, one after another.
+use crate::steps::{HELLO, ONE_FILED, Posting, SECOND, Sample, Script, Step, WHOLE, first_wrong};
 use echo_addr::Address;
-use echo_packet::{Limits, PacketFault};
-use echo_toss::{LinkFile, PostFault, ReplyRule, Tally, TossCause, TossFault, Tosser};
-use std::alloc::Global;
-use std::hash::BuildHasherDefault;
+use echo_packet::PacketFault;
+use echo_toss::{PostFault, ReplyRule, Tally, TossCause};
 use std::test::Fail;
-use test_formats::samples::{ALPHA, BETA, EMPTY, FIRST, GAMMA, POSTED, PURGED, changed};
-
-/// A packet: one with some bytes replaced, of which so many come.
-#[derive(Clone, Copy)]
-struct Sample {
-    packet: &'static [u8],
-    changes: &'static [(usize, u8)],
-    size: usize,
-}
-
-/// The packet of the first posting.
-const WHOLE: Sample = Sample {
-    packet: FIRST,
-    changes: &[],
-    size: 212,
-};
-
-/// What is posted but for the first posting's names, subject and stamp.
-#[derive(Clone, Copy)]
-struct Posting {
-    tag: &'static [u8],
-    serial: u32,
-    reply: &'static [u8],
-    body: &'static [u8],
-}
-
-/// The first posting.
-const HELLO: Posting = Posting {
-    tag: b"TEST",
-    serial: 1,
-    reply: b"",
-    body: b"Hello",
-};
-
-/// The same in the other area.
-const OTHER: Posting = Posting {
-    tag: b"OTHER",
-    ..HELLO
-};
-
-/// The first but with serial 2.
-const SECOND: Posting = Posting { serial: 2, ..HELLO };
-
-/// One step at a system, and what it answers.
-#[derive(Clone, Copy)]
-enum Step {
-    Post(Posting, Result<(), PostFault>),
-    PostBy(ReplyRule, Posting, Result<(), PostFault>),
-    /// A scan makes this packet alone.
-    Scan(Sample),
-    /// A scan makes no packet.
-    ScanNone,
-    Toss(Sample, Tally),
-    /// A toss is refused, and files nothing.
-    Refuse(Sample, TossCause),
-    Purge(u64),
-    /// So many messages are filed, and so many of them wait.
-    Counts(usize, usize),
-    /// The base file is this.
-    Base(&'static [u8]),
-    /// The first message has these kept lines.
-    Kept(&'static [u8]),
-}
-
-fn loaded(alloc: Global, file: &[u8], base: &[u8]) -> Result<System, Fail> {
-    let links = LinkFile::read(alloc, file)?;
-    let mut rest = base;
-    let at = Tosser::load(alloc, links, &mut rest, BuildHasherDefault::new())?;
-    Ok(at)
-}
-
-fn bytes_of(alloc: Global, sample: Sample) -> Result<Vec<u8>, Fail> {
-    let mut bytes = changed(alloc, sample.packet, sample.changes)?;
-    bytes.truncate(sample.size);
-    Ok(bytes)
-}
-
-fn posts(
-    alloc: Global,
-    at: &mut System,
-    rule: ReplyRule,
-    posting: Posting,
-) -> Result<Result<(), PostFault>, Fail> {
-    let draft = draft(alloc, b"All", b"Hi", posting.reply, posting.body)?;
-    Ok(at.post_by(rule, posting.tag, &draft, posting.serial, STAMP))
-}
-
-fn tosses(
-    alloc: Global,
-    at: &mut System,
-    sample: Sample,
-) -> Result<Result<Tally, TossFault>, Fail> {
-    let packet = bytes_of(alloc, sample)?;
-    Ok(toss(at, &packet, Limits::NONE))
-}
-
-fn scans(alloc: Global, at: &mut System, sample: Sample) -> Result<bool, Fail> {
-    let packet = scanned(alloc, at)?;
-    let wanted = bytes_of(alloc, sample)?;
-    Ok(packet == wanted)
-}
-
-fn keeps(at: &System, kept: &[u8]) -> bool {
-    match at.message(0) {
-        Some(message) => message.echo.kept.as_text() == kept,
-        None => false,
-    }
-}
-
-/// Whether the step is answered so.
-fn is_answered(alloc: Global, at: &mut System, step: Step) -> Result<bool, Fail> {
-    match step {
-        Step::Post(posting, wanted) => {
-            Ok(posts(alloc, at, ReplyRule::EightDigits, posting)? == wanted)
-        }
-        Step::PostBy(rule, posting, wanted) => Ok(posts(alloc, at, rule, posting)? == wanted),
-        Step::Scan(sample) => scans(alloc, at, sample),
-        Step::ScanNone => Ok(at.scan(STAMP)?.is_empty()),
-        Step::Toss(sample, wanted) => Ok(tosses(alloc, at, sample)? == Ok(wanted)),
-        Step::Refuse(sample, cause) => {
-            let tally = Tally::NONE;
-            Ok(tosses(alloc, at, sample)? == Err(TossFault { tally, cause }))
-        }
-        Step::Purge(count) => Ok(at.purge()? == count),
-        Step::Counts(filed, waiting) => Ok((at.filed(), at.waiting()) == (filed, waiting)),
-        Step::Base(base) => Ok(holds(alloc, at, base)),
-        Step::Kept(kept) => Ok(keeps(at, kept)),
-    }
-}
-
-/// The number of the first step with another answer, from 1; 0 if there is none.
-fn wrong_step(alloc: Global, at: &mut System, steps: &[Step]) -> Result<usize, Fail> {
-    for (i, step) in steps.iter().enumerate() {
-        if !is_answered(alloc, at, *step)? {
-            return Ok(i + 1);
-        }
-    }
-    Ok(0)
-}
-
-fn first_wrong(alloc: Global, script: &Script) -> Result<usize, Fail> {
-    let mut at = loaded(alloc, script.file, script.base)?;
-    wrong_step(alloc, &mut at, script.steps)
-}
-
-/// A system, the base that it begins with, and steps.
-struct Script {
-    name: &'static str,
-    file: &'static [u8],
-    base: &'static [u8],
-    steps: &'static [Step],
-}
+use test_formats::samples::{ALPHA, BETA, EMPTY, GAMMA, POSTED, PURGED};
 
 /// Of one message that was known.
 const ONE_KNOWN: Tally = Tally {
@@ -175,6 +21,12 @@ const ONE_NOT_LINKED: Tally = Tally {
 const KNOWN: Result<(), PostFault> = Err(PostFault::KnownSerial);
 
 const BAD_REPLY: Result<(), PostFault> = Err(PostFault::BadReply);
+
+/// The first posting in the other area.
+const OTHER: Posting = Posting {
+    tag: b"OTHER",
+    ..HELLO
+};
 
 /// The address of the second system, for which the packets are.
 const NOT_FOR_US: TossCause = TossCause::NotForUs(Address {
@@ -252,7 +104,104 @@ const CONTROLLED_LINES: &[u8] = b"\
     --- echonet\r\
     \x20* Origin: Alpha (1:10/1)\r";
 
+/// The packet of the second system, to the third.
+const ONWARD: Sample = Sample {
+    packet: b"\
+        \x02\0\x03\0\xea\x07\x06\0\x03\0\x0c\0\x22\0\x38\0\0\0\x02\0\
+        \x0a\0\x0a\0\0\0\
+        \0\0\0\0\0\0\0\0\
+        \x01\0\x01\0\
+        \0\0\0\0\0\0\0\0\0\0\0\0\0\0\0\0\0\0\0\0\
+        \x02\0\x02\0\x03\0\x0a\0\x0a\0\0\0\0\0\
+        03 Jul 26  12:34:56\0\
+        All\0Ann\0Hi\0\
+        AREA:TEST\r\
+        \x01MSGID: 1:10/1 00000001\r\
+        Hello\r\
+        --- echonet\r\
+        \x20* Origin: Alpha (1:10/1)\r\
+        SEEN-BY: 10/1 2 3\r\
+        \x01PATH: 10/1 2\r\
+        \0\
+        \0\0",
+    changes: &[],
+    size: 216,
+};
+
+/// Its sender, if its zone is 1 or 2.
+const IN_ZONE_1: Address = Address {
+    zone: 1,
+    net: 10,
+    node: 1,
+};
+
+const IN_ZONE_2: Address = Address {
+    zone: 2,
+    ..IN_ZONE_1
+};
+
+/// The packet of the first posting without zones in its header.
+const NO_ZONES: Sample = Sample {
+    changes: &[(34, 0), (36, 0)],
+    ..WHOLE
+};
+
 const SCRIPTS: &[Script] = &[
+    Script {
+        name: "first posting",
+        file: ALPHA,
+        base: EMPTY,
+        steps: &[
+            Step::Post(HELLO, Ok(())),
+            Step::Counts(1, 1),
+            Step::Base(POSTED),
+            Step::Scan(WHOLE),
+            Step::Counts(1, 0),
+        ],
+    },
+    Script {
+        name: "purged base",
+        file: ALPHA,
+        base: EMPTY,
+        steps: &[
+            Step::Post(
+                Posting {
+                    tag: b"test",
+                    ..HELLO
+                },
+                Ok(()),
+            ),
+            Step::Purge(0),
+            Step::Scan(WHOLE),
+            Step::Purge(1),
+            Step::Purge(0),
+            Step::Base(PURGED),
+        ],
+    },
+    Script {
+        name: "on to the third system",
+        file: BETA,
+        base: EMPTY,
+        steps: &[Step::Toss(WHOLE, ONE_FILED), Step::Scan(ONWARD)],
+    },
+    Script {
+        name: "bytes after a packet",
+        file: BETA,
+        base: EMPTY,
+        steps: &[Step::TossBefore(b"after"), Step::Counts(1, 1)],
+    },
+    Script {
+        name: "zone 0 is the own",
+        file: BETA,
+        base: EMPTY,
+        steps: &[Step::Toss(NO_ZONES, ONE_FILED), Step::From(IN_ZONE_1)],
+    },
+    Script {
+        name: "zone 0 is the own in zone 2",
+        file: b"SYSTEM 2:10/2\nAREA TEST 2:10/1",
+        base: EMPTY,
+        steps: &[Step::Toss(NO_ZONES, ONE_FILED), Step::From(IN_ZONE_2)],
+    },
     Script {
         name: "known serial",
         file: ALPHA,
@@ -352,13 +301,7 @@ const SCRIPTS: &[Script] = &[
         base: EMPTY,
         steps: &[
             Step::Refuse(WHOLE, NOT_FOR_US),
-            Step::Refuse(
-                Sample {
-                    changes: &[(34, 0), (36, 0)],
-                    ..WHOLE
-                },
-                NOT_FOR_US,
-            ),
+            Step::Refuse(NO_ZONES, NOT_FOR_US),
             Step::Refuse(Sample { size: 100, ..WHOLE }, NOT_FOR_US),
             Step::Refuse(
                 Sample { size: 57, ..WHOLE },
@@ -471,7 +414,7 @@ const SCRIPTS: &[Script] = &[
 #[test]
 fn scripts(rt: HostRuntime) -> Result<(), Fail> {
     for script in SCRIPTS {
-        let wrong = first_wrong(rt.alloc(), script)?;
+        let wrong = first_wrong(rt.alloc(), script.file, script.base, script.steps)?;
         let name = script.name;
         assert!(rt; wrong == 0, "{name}: step {wrong}");
     }

@@ -1,14 +1,15 @@
-//! Tossers: what is posted, scanned, tossed and purged at one system after another.
-use echo_addr::{Address, Items, Watched};
+//! Steps at one system, and what each answers. One function owns the system and lends it to each step, so a row more costs
+//! no proof.
+use echo_addr::{Address, Items, Trial, Watched};
 use echo_packet::{Limits, Packed, PacketFault};
 use echo_toss::{
-    BaseFault, Draft, LinkFault, LinkFile, Outcome, PostFault, ScanFault, Stamp, Tally, TossFault,
-    Tosser,
+    BaseFault, Draft, LinkFile, Outcome, PostFault, ReplyRule, ScanFault, Stamp, Tally, TossCause,
+    TossFault, Tosser,
 };
 use std::alloc::{AllocError, Global};
 use std::hash::{BuildHasher, BuildHasherDefault, FoldHasher};
 use std::test::Fail;
-use test_formats::samples::{ALPHA, BETA, FIRST, POSTED, PURGED, changed};
+use test_formats::samples::{FIRST, changed, joined};
 
 pub(crate) type System = Tosser<BuildHasherDefault<FoldHasher>>;
 
@@ -28,10 +29,88 @@ pub(crate) const ONE_FILED: Tally = Tally {
     ..Tally::NONE
 };
 
-/// The system of the link file, which has filed nothing.
-pub(crate) fn system(alloc: Global, file: &[u8]) -> Result<System, LinkFault> {
-    let links = LinkFile::read(alloc, file)?;
-    Ok(Tosser::new(alloc, links, BuildHasherDefault::new()))
+/// A packet: one with some bytes replaced, of which so many come.
+#[derive(Clone, Copy)]
+pub(crate) struct Sample {
+    pub(crate) packet: &'static [u8],
+    pub(crate) changes: &'static [(usize, u8)],
+    pub(crate) size: usize,
+}
+
+/// The packet of the first posting.
+pub(crate) const WHOLE: Sample = Sample {
+    packet: FIRST,
+    changes: &[],
+    size: 212,
+};
+
+/// What Ann posts.
+#[derive(Clone, Copy)]
+pub(crate) struct Posting {
+    pub(crate) tag: &'static [u8],
+    pub(crate) serial: u32,
+    pub(crate) to: &'static [u8],
+    pub(crate) subject: &'static [u8],
+    pub(crate) reply: &'static [u8],
+    pub(crate) body: &'static [u8],
+    pub(crate) stamp: Stamp,
+}
+
+/// The first posting.
+pub(crate) const HELLO: Posting = Posting {
+    tag: b"TEST",
+    serial: 1,
+    to: b"All",
+    subject: b"Hi",
+    reply: b"",
+    body: b"Hello",
+    stamp: STAMP,
+};
+
+/// The same but with serial 2.
+pub(crate) const SECOND: Posting = Posting { serial: 2, ..HELLO };
+
+/// One step at a system, and what it answers.
+#[derive(Clone, Copy)]
+pub(crate) enum Step {
+    Post(Posting, Result<(), PostFault>),
+    PostBy(ReplyRule, Posting, Result<(), PostFault>),
+    /// A scan makes this packet alone.
+    Scan(Sample),
+    /// A scan makes no packet.
+    ScanNone,
+    /// A scan with this stamp is refused.
+    ScanAt(Stamp),
+    Toss(Sample, Tally),
+    /// With this limit of messages, and of the bytes of a text, a toss stops.
+    Stop(Sample, u64, usize, Tally, PacketFault),
+    /// The reader fails after so many bytes.
+    Break(Sample, u64, Tally, PacketFault),
+    /// A toss is refused, and files nothing.
+    Refuse(Sample, TossCause),
+    /// A toss of the first packet with these bytes behind it leaves them unread.
+    TossBefore(&'static [u8]),
+    /// A message with this text from the system of this node.
+    Message(u16, &'static [u8], Outcome),
+    Purge(u64),
+    /// So many messages are filed, and so many of them wait.
+    Counts(usize, usize),
+    /// The base file is this.
+    Base(&'static [u8]),
+    /// The first message has these kept lines.
+    Kept(&'static [u8]),
+    /// It has this tag, DateTime and reply.
+    Filed(&'static [u8], &'static [u8], Option<&'static [u8]>),
+    /// It came from this system.
+    From(Address),
+}
+
+/// A system, the base that it begins with, and steps.
+pub(crate) struct Script {
+    pub(crate) name: &'static str,
+    pub(crate) file: &'static [u8],
+    pub(crate) base: &'static [u8],
+    pub(crate) steps: &'static [Step],
 }
 
 pub(crate) fn address(node: u16) -> Address {
@@ -46,57 +125,33 @@ fn items(alloc: Global, bytes: &[u8]) -> Result<Items<u8>, AllocError> {
     Ok(Items::new(Vec::from_slice(alloc, bytes)?))
 }
 
-pub(crate) fn draft(
-    alloc: Global,
-    to: &[u8],
-    subject: &[u8],
-    reply: &[u8],
-    body: &[u8],
-) -> Result<Draft, AllocError> {
+fn draft(alloc: Global, posting: &Posting) -> Result<Draft, AllocError> {
     Ok(Draft {
-        to_name: items(alloc, to)?,
+        to_name: items(alloc, posting.to)?,
         from_name: items(alloc, b"Ann")?,
-        subject: items(alloc, subject)?,
-        reply: items(alloc, reply)?,
-        body: items(alloc, body)?,
+        subject: items(alloc, posting.subject)?,
+        reply: items(alloc, posting.reply)?,
+        body: items(alloc, posting.body)?,
     })
 }
 
-/// Posts a message as the first posting, but with this tag and serial.
-pub(crate) fn post<S: BuildHasher>(
-    alloc: Global,
-    at: &mut Tosser<S>,
-    tag: &[u8],
-    serial: u32,
-) -> Result<(), PostFault> {
-    let hello = draft(alloc, b"All", b"Hi", b"", b"Hello")?;
-    at.post(tag, &hello, serial, STAMP)
+fn packed(alloc: Global, text: &[u8]) -> Result<Result<Packed, PacketFault>, AllocError> {
+    let to = Vec::from_slice(alloc, b"All")?;
+    let from = Vec::from_slice(alloc, b"Ann")?;
+    let subject = Vec::from_slice(alloc, b"Hi")?;
+    let text = Vec::from_slice(alloc, text)?;
+    let date = *b"03 Jul 26  12:34:56\0";
+    Ok(Packed::new(1, 2, 10, 10, 0, 0, date, to, from, subject, text))
 }
 
-/// The bytes of the one packet that a scan makes.
-pub(crate) fn scanned<S: BuildHasher>(
-    alloc: Global,
-    at: &mut Tosser<S>,
-) -> Result<Vec<u8>, ScanFault> {
-    let packets = at.scan(STAMP)?;
-    match packets.as_slice() {
-        [packet] => Ok(packet.encode(alloc)?),
-        _ => Ok(Vec::new(alloc)),
-    }
-}
-
-/// Tosses the packet at the front of the bytes.
-pub(crate) fn toss<S: BuildHasher>(
-    at: &mut Tosser<S>,
-    packet: &[u8],
-    limits: Limits,
-) -> Result<Tally, TossFault> {
-    let mut rest = packet;
-    at.toss(&mut rest, limits)
+fn bytes_of(alloc: Global, sample: Sample) -> Result<Vec<u8>, AllocError> {
+    let mut bytes = changed(alloc, sample.packet, sample.changes)?;
+    bytes.truncate(sample.size);
+    Ok(bytes)
 }
 
 /// The base file of the system: all that it holds.
-pub(crate) fn saved<S: BuildHasher>(alloc: Global, at: &Tosser<S>) -> Result<Vec<u8>, BaseFault> {
+fn saved<S: BuildHasher>(alloc: Global, at: &Tosser<S>) -> Result<Vec<u8>, BaseFault> {
     let mut file = Watched::new(Vec::new(alloc));
     at.save(&mut file)?;
     Ok(file.into_inner())
@@ -110,175 +165,172 @@ pub(crate) fn holds<S: BuildHasher>(alloc: Global, at: &Tosser<S>, base: &[u8]) 
     }
 }
 
-/// Whether the system was read from the link file of the first system.
-fn is_alpha(links: &LinkFile) -> bool {
-    links.system() == address(1)
-        && links.name() == b"Alpha".as_slice()
-        && links.areas() == 2
-        && links.area(0) == Some(b"TEST".as_slice())
-        && links.area(1) == Some(b"OTHER".as_slice())
-        && links.area(2).is_none()
-        && links.links(b"TEST") == Some([address(2)].as_slice())
-        && links.links(b"test").is_none()
+pub(crate) fn post<S: BuildHasher>(
+    alloc: Global,
+    at: &mut Tosser<S>,
+    rule: ReplyRule,
+    posting: &Posting,
+) -> Result<(), PostFault> {
+    let draft = draft(alloc, posting)?;
+    at.post_by(rule, posting.tag, &draft, posting.serial, posting.stamp)
 }
 
-#[test]
-fn new_system(rt: HostRuntime) -> Result<(), Fail> {
-    let alpha = system(rt.alloc(), ALPHA)?;
-    assert!(rt; is_alpha(alpha.links()));
-    assert_eq!(rt; (alpha.filed(), alpha.waiting()), (0, 0));
-    assert!(rt; alpha.message(0).is_none());
-    Ok(())
+/// Tosses the packet at the front of the bytes.
+pub(crate) fn toss<S: BuildHasher>(
+    at: &mut Tosser<S>,
+    packet: &[u8],
+    limits: Limits,
+) -> Result<Tally, TossFault> {
+    let mut rest = packet;
+    at.toss(&mut rest, limits)
 }
 
-/// Whether a posting and a scan give the base and the packet of the first posting, after which nothing waits.
-fn posts_and_scans<S: BuildHasher>(alloc: Global, at: &mut Tosser<S>) -> Result<bool, Fail> {
-    post(alloc, at, b"TEST", 1)?;
-    let waited = at.waiting();
-    let held = holds(alloc, at, POSTED);
-    let packet = scanned(alloc, at)?;
-    Ok(packet.as_slice() == FIRST && held && (waited, at.waiting(), at.filed()) == (1, 0, 1))
+fn tossed<S: BuildHasher>(
+    alloc: Global,
+    at: &mut Tosser<S>,
+    sample: Sample,
+    limits: Limits,
+) -> Result<Result<Tally, TossFault>, Fail> {
+    let packet = bytes_of(alloc, sample)?;
+    Ok(toss(at, &packet, limits))
 }
 
-#[test]
-fn first_posting(rt: HostRuntime) -> Result<(), Fail> {
-    let mut alpha = system(rt.alloc(), ALPHA)?;
-    assert!(rt; posts_and_scans(rt.alloc(), &mut alpha)?);
-    Ok(())
+fn broken<S: BuildHasher>(
+    alloc: Global,
+    at: &mut Tosser<S>,
+    sample: Sample,
+    left: u64,
+) -> Result<Result<Tally, TossFault>, Fail> {
+    let packet = bytes_of(alloc, sample)?;
+    let mut reader = Watched::new(Trial::new(packet.as_slice(), 7, 1, left));
+    Ok(at.toss(&mut reader, Limits::NONE))
 }
 
-/// What purges change: before a scan, after it, and a second time.
-fn purges<S: BuildHasher>(alloc: Global, at: &mut Tosser<S>) -> Result<[u64; 3], Fail> {
-    post(alloc, at, b"test", 1)?;
-    let early = at.purge()?;
-    at.scan(STAMP)?;
-    Ok([early, at.purge()?, at.purge()?])
+fn leaves<S: BuildHasher>(alloc: Global, at: &mut Tosser<S>, after: &[u8]) -> Result<bool, Fail> {
+    let packets = joined(alloc, FIRST, after)?;
+    let mut rest = packets.as_slice();
+    let tossed = at.toss(&mut rest, Limits::NONE);
+    Ok(tossed == Ok(ONE_FILED) && rest == after)
 }
 
-#[test]
-fn purged_base(rt: HostRuntime) -> Result<(), Fail> {
-    let mut alpha = system(rt.alloc(), ALPHA)?;
-    assert!(rt; purges(rt.alloc(), &mut alpha)? == [0, 1, 0]);
-    assert!(rt; holds(rt.alloc(), &alpha, PURGED));
-    Ok(())
-}
-
-fn packed(alloc: Global, text: &[u8]) -> Result<Result<Packed, PacketFault>, AllocError> {
-    let to = Vec::from_slice(alloc, b"All")?;
-    let from = Vec::from_slice(alloc, b"Ann")?;
-    let subject = Vec::from_slice(alloc, b"Hi")?;
-    let text = Vec::from_slice(alloc, text)?;
-    let date = *b"03 Jul 26  12:34:56\0";
-    Ok(Packed::new(1, 2, 10, 10, 0, 0, date, to, from, subject, text))
-}
-
-/// What becomes of texts that come one after another to the second system, each from the system of this node.
-const OUTCOMES: &[(u16, &[u8], Outcome)] = &[
-    (
-        1,
-        b"AREA:TEST\r\x01MSGID: 1:10/1 00000001\rHi\r",
-        Outcome::Filed,
-    ),
-    (
-        3,
-        b"AREA:TEST\r\x01MSGID: 1:10/1 00000001\rHo\r",
-        Outcome::Known,
-    ),
-    (
-        1,
-        b"AREA:OTHER\r\x01MSGID: 1:10/1 00000001\rHi\r",
-        Outcome::Filed,
-    ),
-    (1, b"AREA:TEST\rHello\r", Outcome::Filed),
-    (1, b"AREA:TEST\rHello\r", Outcome::Known),
-    (1, b"AREA:TEST\rHello\rHello\r", Outcome::Filed),
-    (
-        3,
-        b"AREA:TEST\rHello\rHello\rSEEN-BY: 10/3\r",
-        Outcome::Known,
-    ),
-    (4, b"AREA:TEST\rHello\r", Outcome::NotLinked),
-    (4, b"AREA:NONE\rHello\r", Outcome::NoArea),
-    (1, b"Hello", Outcome::NotEcho),
-    (1, b"AREA:", Outcome::BadTag),
-];
-
-/// What becomes of the text, and how many messages there are then.
 fn outcome<S: BuildHasher>(
     alloc: Global,
     at: &mut Tosser<S>,
     node: u16,
     text: &[u8],
-) -> Result<(Outcome, usize), Fail> {
+) -> Result<Outcome, Fail> {
     let message = packed(alloc, text)??;
-    let outcome = at.toss_message(address(node), &message)?;
-    Ok((outcome, at.filed()))
+    Ok(at.toss_message(address(node), &message)?)
 }
 
-#[test]
-fn outcomes(rt: HostRuntime) -> Result<(), Fail> {
-    let mut beta = system(rt.alloc(), BETA)?;
-    let mut filed = 0;
-    for (i, (node, text, wanted)) in OUTCOMES.iter().enumerate() {
-        if *wanted == Outcome::Filed {
-            filed += 1;
+fn scans<S: BuildHasher>(alloc: Global, at: &mut Tosser<S>, sample: Sample) -> Result<bool, Fail> {
+    let packets = at.scan(STAMP)?;
+    match packets.as_slice() {
+        [packet] => Ok(packet.encode(alloc)? == bytes_of(alloc, sample)?),
+        _ => Ok(false),
+    }
+}
+
+fn scan_fault<S: BuildHasher>(at: &mut Tosser<S>, stamp: Stamp) -> Option<ScanFault> {
+    match at.scan(stamp) {
+        Ok(_) => None,
+        Err(fault) => Some(fault),
+    }
+}
+
+fn keeps<S: BuildHasher>(at: &Tosser<S>, kept: &[u8]) -> bool {
+    match at.message(0) {
+        Some(message) => message.echo.kept.as_text() == kept,
+        None => false,
+    }
+}
+
+fn filed<S: BuildHasher>(at: &Tosser<S>, tag: &[u8], date: &[u8], reply: Option<&[u8]>) -> bool {
+    match at.message(0) {
+        Some(message) => {
+            let echo = &message.echo;
+            message.date.as_slice() == date && echo.tag.as_slice() == tag && echo.reply() == reply
         }
-        let found = outcome(rt.alloc(), &mut beta, *node, text)?;
-        assert!(rt; found == (*wanted, filed), "row {i}");
+        None => false,
     }
-    Ok(())
 }
 
-/// The packet of the second system, to the third.
-const ONWARD: &[u8] = b"\
-    \x02\0\x03\0\xea\x07\x06\0\x03\0\x0c\0\x22\0\x38\0\0\0\x02\0\
-    \x0a\0\x0a\0\0\0\
-    \0\0\0\0\0\0\0\0\
-    \x01\0\x01\0\
-    \0\0\0\0\0\0\0\0\0\0\0\0\0\0\0\0\0\0\0\0\
-    \x02\0\x02\0\x03\0\x0a\0\x0a\0\0\0\0\0\
-    03 Jul 26  12:34:56\0\
-    All\0Ann\0Hi\0\
-    AREA:TEST\r\
-    \x01MSGID: 1:10/1 00000001\r\
-    Hello\r\
-    --- echonet\r\
-    \x20* Origin: Alpha (1:10/1)\r\
-    SEEN-BY: 10/1 2 3\r\
-    \x01PATH: 10/1 2\r\
-    \0\
-    \0\0";
-
-#[test]
-fn on_to_the_third_system(rt: HostRuntime) -> Result<(), Fail> {
-    let mut beta = system(rt.alloc(), BETA)?;
-    assert!(rt; toss(&mut beta, FIRST, Limits::NONE) == Ok(ONE_FILED));
-    let onward = scanned(rt.alloc(), &mut beta)?;
-    assert_eq!(rt; onward.len(), 216);
-    assert!(rt; onward.as_slice() == ONWARD);
-    Ok(())
+fn stopped(tally: Tally, cause: TossCause) -> Result<Tally, TossFault> {
+    Err(TossFault { tally, cause })
 }
 
-/// The sender of the one message that was filed of the first packet with both header zones 0.
-fn sender_without_zones(alloc: Global, file: &[u8]) -> Result<Option<Address>, Fail> {
-    let packet = changed(alloc, FIRST, &[(34, 0), (36, 0)])?;
-    let mut at = system(alloc, file)?;
-    if toss(&mut at, &packet, Limits::NONE) != Ok(ONE_FILED) {
-        return Ok(None);
+/// Whether the step is answered so.
+fn is_answered<S: BuildHasher>(
+    alloc: Global,
+    at: &mut Tosser<S>,
+    step: Step,
+) -> Result<bool, Fail> {
+    let order = ReplyRule::EightDigits;
+    match step {
+        Step::Post(posting, wanted) => Ok(post(alloc, at, order, &posting) == wanted),
+        Step::PostBy(rule, posting, wanted) => Ok(post(alloc, at, rule, &posting) == wanted),
+        Step::Scan(sample) => scans(alloc, at, sample),
+        Step::ScanNone => Ok(at.scan(STAMP)?.is_empty()),
+        Step::ScanAt(stamp) => Ok(scan_fault(at, stamp) == Some(ScanFault::BadStamp)),
+        Step::Purge(count) => Ok(at.purge()? == count),
+        Step::Message(node, text, wanted) => Ok(outcome(alloc, at, node, text)? == wanted),
+        Step::Counts(filed, waiting) => Ok((at.filed(), at.waiting()) == (filed, waiting)),
+        Step::Base(base) => Ok(holds(alloc, at, base)),
+        Step::Kept(kept) => Ok(keeps(at, kept)),
+        Step::Filed(tag, date, reply) => Ok(filed(at, tag, date, reply)),
+        Step::From(sender) => Ok(at.message(0).and_then(|one| one.sender) == Some(sender)),
+        _ => is_tossed(alloc, at, step),
     }
-    Ok(at.message(0).and_then(|message| message.sender))
 }
 
-#[test]
-fn zone_0_is_the_own(rt: HostRuntime) -> Result<(), Fail> {
-    let sender = sender_without_zones(rt.alloc(), BETA)?;
-    assert!(rt; sender == Some(address(1)));
-    let other = Address {
-        zone: 2,
-        net: 10,
-        node: 1,
-    };
-    let sender = sender_without_zones(rt.alloc(), b"SYSTEM 2:10/2\nAREA TEST 2:10/1")?;
-    assert!(rt; sender == Some(other));
-    Ok(())
+/// Whether the step is a toss, and answered so.
+fn is_tossed<S: BuildHasher>(alloc: Global, at: &mut Tosser<S>, step: Step) -> Result<bool, Fail> {
+    match step {
+        Step::Toss(sample, wanted) => Ok(tossed(alloc, at, sample, Limits::NONE)? == Ok(wanted)),
+        Step::Stop(sample, messages, text, tally, fault) => {
+            let found = tossed(alloc, at, sample, Limits { text, messages })?;
+            Ok(found == stopped(tally, TossCause::Packet(fault)))
+        }
+        Step::Break(sample, left, tally, fault) => {
+            Ok(broken(alloc, at, sample, left)? == stopped(tally, TossCause::Packet(fault)))
+        }
+        Step::Refuse(sample, cause) => {
+            Ok(tossed(alloc, at, sample, Limits::NONE)? == stopped(Tally::NONE, cause))
+        }
+        Step::TossBefore(after) => leaves(alloc, at, after),
+        _ => Ok(false),
+    }
+}
+
+/// The number of the first step with another answer, from 1; 0 if there is none.
+fn wrong_step<S: BuildHasher>(
+    alloc: Global,
+    at: &mut Tosser<S>,
+    steps: &[Step],
+) -> Result<usize, Fail> {
+    for (i, step) in steps.iter().enumerate() {
+        if !is_answered(alloc, at, *step)? {
+            return Ok(i + 1);
+        }
+    }
+    Ok(0)
+}
+
+fn loaded(alloc: Global, file: &[u8], base: &[u8]) -> Result<System, Fail> {
+    let links = LinkFile::read(alloc, file)?;
+    let mut rest = base;
+    let at = Tosser::load(alloc, links, &mut rest, BuildHasherDefault::new())?;
+    Ok(at)
+}
+
+/// The number of the first step with another answer at the system of the link file with this base, from 1; 0 if there is
+/// none.
+pub(crate) fn first_wrong(
+    alloc: Global,
+    file: &[u8],
+    base: &[u8],
+    steps: &[Step],
+) -> Result<usize, Fail> {
+    let mut at = loaded(alloc, file, base)?;
+    wrong_step(alloc, &mut at, steps)
 }
