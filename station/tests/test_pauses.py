@@ -137,6 +137,10 @@ class Resumed(WithMail):
             station.unlock()
         return False
 
+    def made(self) -> dict[str, int]:
+        """The packets of a resume that wait for the scan, with the numbers of their files."""
+        return {name: os.stat(self.at("scanned", name)).st_ino for name in self.names("scanned") if name.startswith("2.5020.200.p")}
+
     def test_each_place(self):
         begin, place = copy_state(self.top), 0
         while True:
@@ -144,9 +148,12 @@ class Resumed(WithMail):
             put_state(self.top, begin)
             if not self.stopped(pausing.resume, place):
                 break
+            made = self.made()
             if place % 2:
                 self.say("scan")
             self.say("resume", "2:5020/200")
+            if place % 2 == 0:
+                self.assertLessEqual(made.items(), self.made().items(), place)  # what lies there is not made again
             self.come(5)
             self.say("scan")
             self.assertEqual(self.sent(), [1, 2, 3, 4, 5], place)
