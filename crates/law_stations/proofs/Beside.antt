@@ -3,7 +3,7 @@ use Rattle.std.proofs.Common.{◌≡◌, ◌⊎◌, inl, inr, refl, sym, subst, 
 use Rattle.std.specs.Prelude.{IsTrue}
 use Rattle.{echo_addr.specs.declared.address.Address.Address, base_file.specs.Base.Base, echo_filed.specs.{declared.key.Key.Key, Filed.Filed}, echo_links.specs.Links.{LinkFile, has_area, upper}}
 use Rattle.{model_graph.specs.{Cycle.Polygons, Walk.Among}, model_steps.specs.declared.{packet.Packet.Packet, stamp.Stamp.Stamp}}
-use Rattle.model_run.specs.{AnyState.IsOrderly, Event.RunEvent, Orderly.{FiledUnchanged, copies, count, sent_count, tag_of}, Run.{Run, System, after_events, nth}, States.RunOk, Tidy.{Joined, lists}}
+use Rattle.model_run.specs.{AnyState.IsOrderly, Event.RunEvent, Orderly.{FiledUnchanged, copies, count, sent_count}, Run.{Run, System, after_events, nth}, States.RunOk, Tidy.{Joined, lists}}
 use Rattle.model_run.specs.Repair.{AllSendOther, Besides, RepairEvent, ResendAll, after_repair, after_repairs, rest_packet, resending}
 use Rattle.model_run.specs.Repair as model
 use Rattle.model_run.proofs.{Bases.event-ok, BesideRepairs.beside-orderly, Lists.nth-among, Reaching.repairs-append, Repairs.resent-ok, Targets.some_same, TosserLaws.the_laws}

@@ -53,3 +53,4 @@ pub mod GoingOn
 pub mod ScanSteps
 pub mod Folders
 pub mod ShownPackets
+mod LoneEpochs

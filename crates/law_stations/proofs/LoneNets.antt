@@ -1,7 +1,7 @@
 -- The commands of a net of one station are those of a station alone.
-use Rattle.std.proofs.Common.{◌≡◌, ◌≢◌, ◌⊎◌, inl, inr, refl, sym, subst, ap, ◌∙◌, ℕ, zero, suc, ◌≤◌, append-nil, Bool, true, false, List, [], ◌∷◌, ◌++◌, drop, length, length-append, map, take, Option, Some, None, Ok, arith}
+use Rattle.std.proofs.Common.{◌≡◌, ◌⊎◌, inl, inr, refl, sym, subst, ap, ◌∙◌, ℕ, zero, suc, ◌≤◌, append-nil, Bool, true, false, List, [], ◌∷◌, ◌++◌, drop, length, length-append, map, take, Option, Some, None, arith}
 use Rattle.{std.proofs.lemmas.List.{drop-append-le, drop_all, take_all}, disk_io.specs.Disk.DiskState, model_graph.{specs.Walk.Among, proofs.Members.{Among-append_cases, Among-append_left, Among-append_right}}}
-use Rattle.{base_file.specs.Base.Base, base_file.specs.declared.range.PurgeRange.PurgeRange, base_store.specs.Store.{all_scanned, purged}, cmd_store.specs.{Coming.{Coming, Fails, Holds, Unknown}, declared.drafting.NewMessage.NewMessage}, echo_links.specs.{Links.LinkFile, LinkLines.LinksOf}}
+use Rattle.{base_file.specs.Base.Base, base_file.specs.declared.range.PurgeRange.PurgeRange, base_store.specs.Store.{all_scanned, purged}, cmd_store.specs.{Coming.{Coming, Fails, Holds, Unknown}, declared.drafting.NewMessage.NewMessage}}
 use Rattle.{echo_steps.specs.PacketsIn.state_in, model_run.{specs.Run.{change, nth}, proofs.{Lists.{nth-among, nth-append}, Targets.{none_some, some_same}}}, model_steps.specs.{PacketFiles.PacketFile, SystemState.SystemState, declared.stamp.Stamp.Stamp}}
 use Rattle.law_stations.specs.{AnyDisks.disks_at, Commands.{Command, CommandEvent, IsPacketAt, Post, Purge, Purges, Posts, Scan, Toss, Tosses, TossesAll, whole_of}}
 use Rattle.law_stations.specs.{Disks.{Disks, naming}, LoneDisks.{LoneDisks, MayHappenAlone, MayHappenAllAlone, lone_disks_at_first}}

@@ -1,7 +1,7 @@
 -- The traces of purges show which purges were run.
 use Rattle.{std.proofs.Common.{◌≡◌, ◌⊎◌, inl, inr, refl, sym, subst, ap, ◌∙◌, ℕ, zero, suc, ◌<◌, ◌≤◌, arith, Bool, true, false, List, [], ◌∷◌, ◌++◌, take, Option, Some}, model_graph.specs.Walk.Among}
 use Rattle.{echo_filed.{specs.{Filed.Filed, Stubs.stub_of}, proofs.Keys.stub_of_stub}, model_steps.specs.Purging.purged}
-use Rattle.base_file.specs.{Purging.{end_below, is_within, left_in, left_to, purge_end, stub_if}, declared.range.PurgeRange.PurgeRange}
+use Rattle.base_file.specs.{Purging.{end_below, is_within, left_in, left_to, purge_end, stub_if}}
 use Rattle.std.proofs.lemmas.Bool.{ltb-false, ltb-true}
 use Rattle.std.specs.Prelude.{nat_lt, None, if◌then◌else◌}
 use Rattle.model_run.{specs.{Lone.{PurgeDone, left_by_all}, Run.nth}, proofs.Targets.{some_same, none_some}}

@@ -1,5 +1,5 @@
 -- The contents of one station stay.
-use Rattle.std.proofs.Common.{◌≡◌, ◌⊎◌, inl, inr, refl, sym, subst, ap, ◌∙◌, ℕ, ◌<◌, ◌≤◌, arith, List, [], ◌∷◌, ◌++◌, map, Some}
+use Rattle.std.proofs.Common.{◌≡◌, ◌⊎◌, inl, inr, refl, sym, subst, ap, ◌∙◌, ℕ, ◌≤◌, arith, List, [], ◌∷◌, ◌++◌, map, Some}
 use Rattle.{std.proofs.lemmas.List.map-append, model_graph.{specs.Walk.Among, proofs.Members.{Among-append_cases, Among-append_left, Among-append_right}}}
 use Rattle.{echo_packet.specs.Packet.packet_bytes, echo_links.specs.Links.{IsFile, LinkFile}, echo_filed.specs.{Filed.Filed, Stubs.stub_of}}
 use Rattle.{model_steps.specs.declared.packet.Packet.Packet, model_run.specs.{Run.nth, Lone.{LoneEvent, LoneSystem, PurgeDone, PurgeHere, after_all_lone, left_by_all, lone_run}}}

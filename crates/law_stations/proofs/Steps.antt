@@ -33,7 +33,7 @@ quiet-step file s new events event lone none same agrees =
     (λ bytes h. inl (let R : List (List ℕ) → Type 0 = λ files. C files bytes in subst R same.1 h))
     agrees
 
-scan-same : (z : LoneSystem) (stamp : Stamp) (b : Bool) →
+pub scan-same : (z : LoneSystem) (stamp : Stamp) (b : Bool) →
     (if b then record {
       systems = change 0 scanning_at (z.system ∷ []);
       packets = z.sent ++ scanned z.system.file z.system.base z.system.cursor stamp;
@@ -42,11 +42,8 @@ scan-same : (z : LoneSystem) (stamp : Stamp) (b : Bool) →
 scan-same z stamp true = refl
 scan-same z stamp false = refl
 
--- the base after a toss
-module _ (files : List Coming) (file : LinkFile) (s new : LoneStation) (events : List LoneEvent) (lone : IsLone file s events) (toss : TossesAny files s new) where
-  abbrev z : LoneSystem
-  z = lone_run file events
-
+-- a toss of any files at a system that agrees with the station
+module _ (files : List Coming) (z : LoneSystem) (s new : LoneStation) (agrees : Agrees s.net (run_alone z)) (toss : TossesAny files s new) where
   abbrev station : Station
   station = toss.station
 
@@ -57,10 +54,10 @@ module _ (files : List Coming) (file : LinkFile) (s new : LoneStation) (events :
   whole = held_in (tossed_whole files toss.tosses.stopped toss.tosses.left)
 
   has : HasSystem station z.system
-  has = (let P : List Station → Type 0 = λ ss. Paired HasSystem ss (z.system ∷ []) in subst P toss.there lone.agrees.stations).0
+  has = (let P : List Station → Type 0 = λ ss. Paired HasSystem ss (z.system ∷ []) in subst P toss.there agrees.stations).0
 
-  pub made : TossesFrom held whole z.system (state_in toss.file toss.next)
-  made =
+  pub tossed-here : TossesFrom held whole z.system (state_in toss.file toss.next)
+  tossed-here =
       let tosses = toss.tosses in
       let n = wholes (length files) tosses.stopped tosses.left in
       let same : state_in toss.file station.base ≡ state_of z.system =
@@ -69,12 +66,12 @@ module _ (files : List Coming) (file : LinkFile) (s new : LoneStation) (events :
       let made = files-tossed n files z.system (state_in toss.file toss.next) toss.any (file-fits station.links z.system.file has.links) has.is_base tossed in
       subst (λ (w : List Coming). TossesFrom held (held_in w) z.system (state_in toss.file toss.next)) (whole-first files tosses.stopped tosses.left) made
 
-  left-agrees : Agrees (with_left s.net 0 [] toss.next) (run_alone (with_system z made.now))
+  pub left-agrees : Agrees (with_left s.net 0 [] toss.next) (run_alone (with_system z tossed-here.now))
   left-agrees =
-      let t = made.takes in
+      let t = tossed-here.takes in
       let L : LinkFile → Type 0 = λ f. LinksOf station.links (Ok f) in
       let Q : List (List ℕ) → Type 0 = λ ps. Paired IsPacketFile ps z.sent in
-      puts-agree s.net (run_alone z) 0 toss.next (λ _. made.now) (s.net.packets ++ []) z.sent [] s.net.postings lone.agrees (record {
+      puts-agree s.net (run_alone z) 0 toss.next (λ _. tossed-here.now) (s.net.packets ++ []) z.sent [] s.net.postings agrees (record {
         station = station;
         at = ap (λ (ss : List Station). nth 0 ss) toss.there;
         s = z.system;
@@ -84,38 +81,52 @@ module _ (files : List Coming) (file : LinkFile) (s new : LoneStation) (events :
           base = ap (λ (x : SystemState). record { messages = x.base; cursor = x.cursor }) (sym t.is);
           is_base = t.base;
         };
-        paired = subst Q (sym (append-nil s.net.packets)) lone.agrees.packets;
+        paired = subst Q (sym (append-nil s.net.packets)) agrees.packets;
         longer = t.longer;
         kept = λ m h. h;
         posted = λ m h. inl h;
         only = λ m h. inl (t.posted m h);
       })
 
-  from-file : (e : LoneEvent) → Among e made.events → IsTossFrom file held e
-  from-file e h = (let P : LinkFile → Type 0 = λ f. IsTossFrom f held e in subst P (run-file file events) (made.from e h))
+pub plain-from : (file : LinkFile) (files : List (List ℕ)) (e : LoneEvent) → IsTossFrom file files e → IsOfPackets e
+plain-from file files (PostHere tag draft serial stamp) h = absurd h
+plain-from file files (TossHere sender messages) (bytes, i, front) = front-plain bytes front.limits front.header messages front.begins
+plain-from file files (ScanHere stamp) h = absurd h
+plain-from file files (PurgeHere range) h = absurd h
 
-  plain-from : (e : LoneEvent) → IsTossFrom file held e → IsOfPackets e
-  plain-from (PostHere tag draft serial stamp) h = absurd h
-  plain-from (TossHere sender messages) (bytes, i, front) = front-plain bytes front.limits front.header messages front.begins
-  plain-from (ScanHere stamp) h = absurd h
-  plain-from (PurgeHere range) h = absurd h
+-- the base after a toss
+module _ (files : List Coming) (file : LinkFile) (s new : LoneStation) (events : List LoneEvent) (lone : IsLone file s events) (toss : TossesAny files s new) where
+  abbrev z : LoneSystem
+  z = lone_run file events
+
+  abbrev came_now : List (List ℕ)
+  came_now = held_in files
+
+  abbrev whole_now : List (List ℕ)
+  whole_now = held_in (tossed_whole files toss.tosses.stopped toss.tosses.left)
+
+  abbrev pub made : TossesFrom came_now whole_now z.system (state_in toss.file toss.next)
+  made = tossed-here files z s new lone.agrees toss
+
+  from-file : (e : LoneEvent) → Among e made.events → IsTossFrom file came_now e
+  from-file e h = (let P : LinkFile → Type 0 = λ f. IsTossFrom f came_now e in subst P (run-file file events) (made.from e h))
 
   pub toss-step : IsLone file new (events ++ made.events)
   toss-step =
-      let target : LoneStation = record { net = with_left s.net 0 [] toss.next; came = s.came ++ held; whole = s.whole ++ whole } in
+      let target : LoneStation = record { net = with_left s.net 0 [] toss.next; came = s.came ++ came_now; whole = s.whole ++ whole_now } in
       let A : LoneSystem → Type 0 = λ x. Agrees (with_left s.net 0 [] toss.next) (run_alone x) in
       let N : LoneStation → Type 0 = λ x. IsLone file x (events ++ made.events) in
       subst N (sym toss.becomes) (lone-more file s target events made.events lone
-      (λ e h. plain-from e (from-file e h))
-      (λ bytes h. Among-append_left bytes s.came held h)
+      (λ e h. plain-from file came_now e (from-file e h))
+      (λ bytes h. Among-append_left bytes s.came came_now h)
       (λ sender messages h.
       let (bytes, i, front) = from-file (TossHere sender messages) h in
-      (bytes, Among-append_right bytes s.came held i, front))
-      (λ bytes h. elim (Among-append_cases bytes s.whole whole h) [
+      (bytes, Among-append_right bytes s.came came_now i, front))
+      (λ bytes h. elim (Among-append_cases bytes s.whole whole_now h) [
         | inl old ↦ inl old
         | inr now ↦ inr (let P : LinkFile → Type 0 = λ f. IsTossedBy f made.events bytes in subst P (run-file file events) (made.all bytes now))
       ])
-      (subst A (sym (made.becomes z refl)) left-agrees))
+      (subst A (sym (made.becomes z refl)) (left-agrees files z s new lone.agrees toss)))
 
 -- each purge was done by a command
 abbrev pub AreOfCommands : List LoneCommand → List LoneEvent → Type 0

@@ -16,6 +16,7 @@ pub mod LoneStations
 pub mod AloneInOrder
 pub mod LoneDisks
 pub mod LoneNets
+pub mod LoneEpochs
 pub mod AloneOverCrashes
 pub mod DiskKinds
 pub mod OnDisks

@@ -10,7 +10,8 @@
 //!
 //! For crashes, `Disks` has files under their names, and staging files. `Stopping` says how far a command gets, `CanEnd`
 //! treats the files of stopped scans, and `OverCrashes` is the promise about the disks. For one station: `LoneStations`
-//! and `AloneInOrder`, and with crashes `LoneDisks` and `AloneOverCrashes`. `LoneNets` joins them to disks.
+//! and `AloneInOrder`, and with crashes `LoneDisks` and `AloneOverCrashes`. `LoneNets` joins them to disks. `LoneEpochs`
+//! begins with any base, and has link files that change.
 //!
 //! For commands on disks: a crash leaves of a command what the law over crashes allows (`commands`, `scanning`,
 //! `disk_laws`). After any steps of a sequence, the disks show a net of the headline over crashes (`sequence_laws`).
@@ -45,7 +46,7 @@ pub use laws::{
 pub use lone_laws::{
     faultless_tosses_are_whole, lone_stations_are_in_order,
     lone_stations_are_in_order_over_crashes, lone_stations_are_in_order_over_sequences,
-    nets_of_one_station_are_in_order, what_lone_stations_show_stays,
+    lone_stations_go_on, nets_of_one_station_are_in_order, what_lone_stations_show_stays,
     what_lone_stations_show_stays_over_crashes,
 };
 pub use repair_laws::{

@@ -1,6 +1,6 @@
 //! Laws about the definitions. Each law is the contract of a function that does nothing.
 
-ghost use Rattle.law_stations.specs.{AloneInOrder.AloneIsInOrder, AloneInOrder.AloneStays, AloneInOrder.FaultlessTossIsWhole, AloneOverCrashes.AloneIsInOrderOverCrashes, AloneOverCrashes.AloneStaysOverCrashes, LoneNets.LoneSequencesAreInOrder, LoneNets.NetOfOneIsInOrder, Seats.either};
+ghost use Rattle.law_stations.specs.{AloneInOrder.AloneIsInOrder, AloneInOrder.AloneStays, AloneInOrder.FaultlessTossIsWhole, AloneOverCrashes.AloneIsInOrderOverCrashes, AloneOverCrashes.AloneStaysOverCrashes, LoneEpochs.AloneGoesOn, LoneNets.LoneSequencesAreInOrder, LoneNets.NetOfOneIsInOrder, Seats.either};
 
 use disk_io::Disk;
 use station::OpenStation;
@@ -36,6 +36,13 @@ pub fn lone_stations_are_in_order_over_crashes()
 /// unchanged or as its stub. No packet file loses its name.
 pub fn what_lone_stations_show_stays_over_crashes()
     ensures { AloneStaysOverCrashes }
+{}
+
+/// Let the station begin with any base, as one that moved in with its old one, and let its link file change between commands.
+/// The base has each message at most once, and all postings. Since it had the first base, each address was sent each message
+/// at most once, and none that had been scanned before.
+pub fn lone_stations_go_on()
+    ensures { AloneGoesOn }
 {}
 
 /// Let the packet files of a net of one station begin with all files of others that it will ever toss. Whatever commands run,
