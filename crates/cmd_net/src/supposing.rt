@@ -34,10 +34,7 @@ pub(crate) fn supposes(supposed: Supposed<'_>) -> bool
     supposed.missing || !supposed.named.is_empty() || !supposed.without.is_empty()
 }
 
-pub(crate) fn addresses_in<'a>(
-    rt: &HostRuntime,
-    words: &[&str],
-) -> Result<Vec<Address>, Fault<'a>>
+pub(crate) fn addresses_in<'a>(rt: &HostRuntime, words: &[&str]) -> Result<Vec<Address>, Fault<'a>>
     ensures { IfOk result (λ addresses. vec_len addresses ≡ length words.now) }
 {
     let mut addresses = Vec::new(rt.alloc());
