@@ -50,19 +50,12 @@ pub record IsRefused (old new : Output) (status : Status) : Type 0 where
   pub is : status ≡ status_of fault
   pub printed : new ≡ old
 
--- The numbers of the files and addresses that the words of the command name, and whether they name a nodelist.
-pub record Named : Type 0 where
-  pub files : ℕ
-  pub listed : Bool
-  pub assumed : ℕ
-  pub without : ℕ
-
--- The status of the command is that of the right answer for some files, systems and nodelist, none of them left out.
-pub record IsCheckRun (words : Named) (more : Bool) (tag : Option (List ℕ)) (missing : Bool) (old new : Output) (status : Status) : Type 0 where
+-- The status of the command is that of the right answer for some files, systems and nodelist, as many as its words name.
+pub record IsCheckRun (files : ℕ) (has_nodelist : Bool) (assumed left_out : ℕ) (more : Bool) (tag : Option (List ℕ)) (missing : Bool) (old new : Output) (status : Status) : Type 0 where
   pub nodelist : Option (List ℕ)
-  pub listed : is_some nodelist ≡ words.listed
+  pub listed : is_some nodelist ≡ has_nodelist
   pub named : List Address
-  pub all_named : length named ≡ words.assumed
+  pub all_named : length named ≡ assumed
   pub out : List Address
-  pub all_out : length out ≡ words.without
-  pub checks : ChecksFiles words.files nodelist more tag named missing out old new status
+  pub all_out : length out ≡ left_out
+  pub checks : ChecksFiles files nodelist more tag named missing out old new status

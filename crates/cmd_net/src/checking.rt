@@ -43,8 +43,8 @@ pub(crate) fn run_check<W: Sink, E: Sink>(
     out: &mut W,
     errors: &mut E,
 ) -> Status
-    ensures { let words_named = record { files = length links.now.names.items; listed = is_some words.now.nodelist; assumed = length words.now.assume.items; without = length words.now.without.items } in
-        IsCheckRun words_named words.now.more (option_copied words.now.tag) words.now.assume_missing (output_of W.contents W.failures W.holds out.old) (output_of W.contents W.failures W.holds out.new) result
+    ensures { IsCheckRun (length links.now.names.items) (is_some words.now.nodelist) (length words.now.assume.items) (length words.now.without.items) words.now.more (option_copied words.now.tag) words.now.assume_missing
+        (output_of W.contents W.failures W.holds out.old) (output_of W.contents W.failures W.holds out.new) result
         ⊎ IsRefused (output_of W.contents W.failures W.holds out.old) (output_of W.contents W.failures W.holds out.new) result }
 {
     match named_in(rt, words) {
