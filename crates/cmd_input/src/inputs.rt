@@ -1,4 +1,5 @@
 //! The bytes of files and of standard input.
+ghost use Rattle.std.specs.Prelude.{◌≡◌, ◌+◌, IfOk, None, OnOk, is_some, vec_len};
 
 use crate::paths::{PathName, PathNames};
 use cmd_status::Fault;
@@ -49,7 +50,9 @@ pub fn read_if_given<'a>(
     rt: &HostRuntime,
     path: Option<&'a str>,
     most: usize,
-) -> Result<Option<Vec<u8>>, Fault<'a>> {
+) -> Result<Option<Vec<u8>>, Fault<'a>>
+    ensures { IfOk result (λ bytes. is_some bytes ≡ is_some path.entry) }
+{
     match path {
         Some(path) => Ok(Some(read_file(rt, path, most)?)),
         None => Ok(None),
@@ -73,11 +76,13 @@ pub fn read_standard_input<'a>(rt: &HostRuntime, most: usize) -> Result<Vec<u8>,
 }
 
 /// The bytes of link files in order, up to the first that cannot be read. The fault is that of this file, or the
-/// reason why the list of link files was not read.
+/// reason why the list of link files was not read. Without a fault all were read.
 pub fn read_links<'a>(
     rt: &HostRuntime,
     links: &'a PathNames<'a>,
-) -> (Vec<Items<u8>>, Option<Fault<'a>>) {
+) -> (Vec<Items<u8>>, Option<Fault<'a>>)
+    ensures { result.1 ≡ None → vec_len result.0 ≡ vec_len links.now.names }
+{
     let mut files = Vec::new(rt.alloc());
     match push_links(rt, links, &mut files) {
         Ok(()) => (files, links.stopped),
@@ -89,7 +94,9 @@ fn push_links<'a>(
     rt: &HostRuntime,
     links: &'a PathNames<'a>,
     files: &mut Vec<Items<u8>>,
-) -> Result<(), Fault<'a>> {
+) -> Result<(), Fault<'a>>
+    ensures { OnOk result (vec_len files.new ≡ vec_len files.old + vec_len links.now.names) }
+{
     for name in &links.names {
         files.push(Items::new(read_link_file(rt, name)?))?;
     }

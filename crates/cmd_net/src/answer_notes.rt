@@ -1,4 +1,6 @@
 //! The notes on the answers of `picture` and `why`, and on the fault of a link file.
+ghost use Rattle.std.specs.Prelude.{◌≡◌};
+ghost use Rattle.cmd_status.specs.Status.{status_of};
 
 use crate::noting::{Notes, Shown};
 use crate::placing::{Given, NotedNet, by_address};
@@ -18,7 +20,9 @@ pub(crate) fn report_noted<E: Sink>(
     given: Given<'_>,
     notes: bool,
     errors: &mut E,
-) -> Status {
+) -> Status
+    ensures { result ≡ status_of fault.entry }
+{
     let status = fault.report(errors);
     if notes && matches!(fault, Fault::Link(_)) {
         tell_first_line(alloc, given, errors);

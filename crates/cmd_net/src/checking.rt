@@ -1,4 +1,8 @@
-//! The command `check`: it reads its files, and calls the functions of values.
+//! The command `check`: it reads its files, and calls the functions of values. Its status is that of their answer for the files
+//! that it read, and none is left out (`run_check`).
+ghost use Rattle.std.specs.Prelude.{◌≡◌, ◌⊎◌, IfOk, Option, is_some, length, option_copied, option_map, vec_len};
+ghost use Rattle.cmd_status.specs.Devices.{output_of};
+ghost use Rattle.cmd_net.specs.Answered.{CheckedSo, ChecksFiles, EndsChecked, IsCheckRun, IsRefused, PlainAnswers};
 
 use crate::answer_notes::report_noted;
 use crate::checked_notes::tell_checked;
@@ -38,14 +42,22 @@ pub(crate) fn run_check<W: Sink, E: Sink>(
     notes: bool,
     out: &mut W,
     errors: &mut E,
-) -> Status {
+) -> Status
+    ensures { IsCheckRun (length links.now.names.items) (is_some words.now.nodelist) (length words.now.assume.items) (length words.now.without.items) words.now.more (option_copied words.now.tag) words.now.assume_missing
+        (output_of W.contents W.failures W.holds out.old) (output_of W.contents W.failures W.holds out.new) result
+        ⊎ IsRefused (output_of W.contents W.failures W.holds out.old) (output_of W.contents W.failures W.holds out.new) result }
+{
     match named_in(rt, words) {
         Ok(named) => check_named(rt, words, &named, links, notes, out, errors),
         Err(fault) => fault.report(errors),
     }
 }
 
-fn named_in<'a>(rt: &HostRuntime, words: &CheckWords<'a>) -> Result<Named, Fault<'a>> {
+fn named_in<'a>(rt: &HostRuntime, words: &CheckWords<'a>) -> Result<Named, Fault<'a>>
+    ensures assumed { IfOk result (λ named. length named.assumed.items ≡ length words.now.assume.items) }
+    ensures without { IfOk result (λ named. length named.without.items ≡ length words.now.without.items) }
+    ensures listed { IfOk result (λ named. is_some named.list ≡ is_some words.now.nodelist) }
+{
     let assumed = addresses_in(rt, &words.assume)?;
     let without = addresses_in(rt, &words.without)?;
     match read_if_given(rt, words.nodelist, MAX_INPUT) {
@@ -58,6 +70,25 @@ fn named_in<'a>(rt: &HostRuntime, words: &CheckWords<'a>) -> Result<Named, Fault
     }
 }
 
+// The nodelist, if one is given.
+fn list_in(named: &Named) -> Option<&[u8]>
+    ensures { option_copied result ≡ option_map (λ bytes. bytes.items) named.now.list }
+{
+    match &named.list {
+        Some(bytes) => Some(bytes.as_slice()),
+        None => None,
+    }
+}
+
+fn tag_in<'a>(words: &CheckWords<'a>) -> Option<&'a [u8]>
+    ensures { option_copied result ≡ option_copied words.now.tag }
+{
+    match words.tag {
+        Some(tag) => Some(tag.as_bytes()),
+        None => None,
+    }
+}
+
 fn check_named<W: Sink, E: Sink>(
     rt: &HostRuntime,
     words: &CheckWords<'_>,
@@ -66,13 +97,16 @@ fn check_named<W: Sink, E: Sink>(
     notes: bool,
     out: &mut W,
     errors: &mut E,
-) -> Status {
+) -> Status
+    ensures { ChecksFiles (length links.now.names.items) (option_map (λ bytes. bytes.items) named.now.list) words.now.more (option_copied words.now.tag) named.now.assumed.items words.now.assume_missing named.now.without.items
+        (output_of W.contents W.failures W.holds out.old) (output_of W.contents W.failures W.holds out.new) result }
+{
     let asked = Asked {
         besides: Besides {
-            nodelist: named.list.as_ref().map(|bytes| bytes.as_slice()),
+            nodelist: list_in(named),
             more: words.more,
         },
-        tag: words.tag.map(|tag| tag.as_bytes()),
+        tag: tag_in(words),
         supposed: supposed(&named.assumed, words.assume_missing, &named.without),
     };
     let (texts, stopped) = read_links(rt, links);
@@ -91,7 +125,10 @@ fn check_given<W: Sink, E: Sink>(
     notes: bool,
     out: &mut W,
     errors: &mut E,
-) -> Status {
+) -> Status
+    ensures { EndsChecked (option_copied asked.entry.besides.nodelist) asked.entry.besides.more (option_copied asked.entry.tag) given.entry.texts.now asked.entry.supposed.named.now asked.entry.supposed.missing asked.entry.supposed.without.now stopped.entry
+        (output_of W.contents W.failures W.holds out.old) (output_of W.contents W.failures W.holds out.new) result }
+{
     match answered(alloc, asked, given.texts, stopped, out) {
         Ok(judged) => {
             let status = status_of(judged, errors);
@@ -119,7 +156,10 @@ fn answered<'a, W: Sink>(
     files: &[Items<u8>],
     stopped: Option<Fault<'a>>,
     out: &mut W,
-) -> Result<Judged, Fault<'a>> {
+) -> Result<Judged, Fault<'a>>
+    ensures { CheckedSo (option_copied asked.entry.besides.nodelist) asked.entry.besides.more (option_copied asked.entry.tag) files.now asked.entry.supposed.named.now asked.entry.supposed.missing asked.entry.supposed.without.now stopped.entry
+        (output_of W.contents W.failures W.holds out.old) (output_of W.contents W.failures W.holds out.new) result }
+{
     let Asked {
         besides,
         tag,
@@ -128,9 +168,25 @@ fn answered<'a, W: Sink>(
     if supposes(supposed) {
         return check_supposing(alloc, besides, tag, files, supposed, stopped, out);
     }
-    let status = match tag {
-        Some(tag) => check(alloc, besides, tag, files, stopped, out)?,
-        None => check_all(alloc, besides, files, stopped, out)?,
-    };
-    Ok(Judged::Ended(status))
+    match plainly_answered(alloc, besides, tag, files, stopped, out) {
+        Ok(status) => Ok(Judged::Ended(status)),
+        Err(fault) => Err(fault),
+    }
+}
+
+// Without supposed systems.
+fn plainly_answered<'a, W: Sink>(
+    alloc: Global,
+    besides: Besides<'_>,
+    tag: Option<&[u8]>,
+    files: &[Items<u8>],
+    stopped: Option<Fault<'a>>,
+    out: &mut W,
+) -> Result<Status, Fault<'a>>
+    ensures { PlainAnswers (option_copied besides.entry.nodelist) besides.entry.more (option_copied tag.entry) files.now stopped.entry (output_of W.contents W.failures W.holds out.old) (output_of W.contents W.failures W.holds out.new) result }
+{
+    match tag {
+        Some(tag) => check(alloc, besides, tag, files, stopped, out),
+        None => check_all(alloc, besides, files, stopped, out),
+    }
 }

@@ -1,4 +1,6 @@
 //! The systems that the words of a command name, and the files of the assumed ones.
+ghost use Rattle.std.specs.Prelude.{◌≡◌, IfOk, Ok, length, vec_len};
+ghost use Rattle.cmd_net.specs.Answered.{judged_status, supposing};
 
 use cmd_check::Judged;
 use cmd_status::{Fault, Status, parse_address};
@@ -13,7 +15,11 @@ pub(crate) fn supposed<'s>(
     named: &'s [Address],
     missing: bool,
     without: &'s [Address],
-) -> Supposed<'s> {
+) -> Supposed<'s>
+    ensures named { result.named.now ≡ named.now }
+    ensures missing { result.missing ≡ missing }
+    ensures without { result.without.now ≡ without.now }
+{
     Supposed {
         named,
         missing,
@@ -22,14 +28,15 @@ pub(crate) fn supposed<'s>(
 }
 
 /// Whether a system is judged without its file, or left out.
-pub(crate) fn supposes(supposed: Supposed<'_>) -> bool {
+pub(crate) fn supposes(supposed: Supposed<'_>) -> bool
+    ensures { result ≡ supposing supposed.entry.named.now supposed.entry.missing supposed.entry.without.now }
+{
     supposed.missing || !supposed.named.is_empty() || !supposed.without.is_empty()
 }
 
-pub(crate) fn addresses_in<'a>(
-    rt: &HostRuntime,
-    words: &[&str],
-) -> Result<Vec<Address>, Fault<'a>> {
+pub(crate) fn addresses_in<'a>(rt: &HostRuntime, words: &[&str]) -> Result<Vec<Address>, Fault<'a>>
+    ensures { IfOk result (λ addresses. vec_len addresses ≡ length words.now) }
+{
     let mut addresses = Vec::new(rt.alloc());
     for word in words {
         addresses.push(parse_address(*word)?)?;
@@ -38,7 +45,9 @@ pub(crate) fn addresses_in<'a>(
 }
 
 /// The status of an answer. An unknown address is reported.
-pub(crate) fn status_of<E: Sink>(judged: Judged, errors: &mut E) -> Status {
+pub(crate) fn status_of<E: Sink>(judged: Judged, errors: &mut E) -> Status
+    ensures { result ≡ judged_status (Ok judged) }
+{
     match judged {
         Judged::Ended(status) => status,
         Judged::Unknown(address) => {
