@@ -2,7 +2,9 @@
 """pictures.py PROGRAM [--check]: makes docs/pictures/loop.html, the page of examples/nets/loop, and from it
 docs/pictures/loop.png, the step at which the second packet with one message leaves for 1:10/4. The pixels are drawn by
 Chromium. With --check nothing is written: the page has to be the one that net-page makes now, and Chromium is not
-needed. The day in a page is left out. net-page needs Graphviz."""
+needed. The day in a page is left out, and its style and script, which stand in tools/, are kept as their digests.
+net-page needs Graphviz."""
+import hashlib
 import os
 import re
 import shutil
@@ -25,6 +27,14 @@ def page(program: str, folder: str) -> str:
         return re.sub(r" on \d{4}-\d\d-\d\d \d\d:\d\d UTC", "", file.read())
 
 
+def kept(text: str) -> str:
+    """The page with the digests of its style and script."""
+    def digest(part: re.Match[str]) -> str:
+        return part[1] + hashlib.sha256(part[3].encode()).hexdigest() + part[4]
+
+    return re.sub(r"(<(style|script)>)(.*?)(</\2>)", digest, text, flags=re.DOTALL)
+
+
 def draw(text: str, folder: str) -> None:
     """Draws the page after its last step, for a reader who wants no motion."""
     text = re.sub(r'<meta http-equiv="Content-Security-Policy"[^>]*>', "", text)
@@ -45,11 +55,11 @@ def main() -> None:
         text = page(program, folder)
         if "--check" in sys.argv:
             with open(os.path.join(TOP, PAGE), encoding="utf-8") as file:
-                if file.read() != text:
+                if file.read() != kept(text):
                     sys.exit("%s is not what net-page makes: run make pictures" % PAGE)
             return
         with open(os.path.join(TOP, PAGE), "w", encoding="utf-8") as file:
-            file.write(text)
+            file.write(kept(text))
         draw(text, folder)
     finally:
         shutil.rmtree(folder)
