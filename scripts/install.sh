@@ -26,7 +26,7 @@ sed "s|/usr/bin/|$prefix/bin/|g; s|/usr/share/|$prefix/share/|g" packaging/echon
   > "$to/share/echonet/echonet.service"
 chmod 644 "$to/share/echonet/echonet.service"
 install -m 644 README.md docs/*.md "$to/share/doc/echonet"
-install -m 644 docs/pictures/* "$to/share/doc/echonet/pictures"
+install -m 644 docs/pictures/loop.png "$to/share/doc/echonet/pictures"
 cp -R examples/net examples/nets "$to/share/doc/echonet/examples"
 ln -sfn ../../echonet "$to/share/doc/echonet/station"
 chmod -R u=rwX,go=rX "$to/share/doc/echonet/examples"
